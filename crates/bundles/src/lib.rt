@@ -1,0 +1,3 @@
+// Bundles: file by file, then over all.
+pub mod bundle;
+pub mod overall;

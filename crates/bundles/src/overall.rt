@@ -1,0 +1,182 @@
+// Checks over all files of a bundle.
+use files::buffer::clear;
+use files::cursor::Cursor;
+use files::cursor::Step;
+use files::field::kind;
+use files::field::labels;
+use files::field::node;
+use files::field::site;
+use files::field::size;
+use files::refuse::refuse;
+use files::reply::door_root;
+use files::reply::is_door;
+use files::reply::is_reach;
+use files::word::word_at;
+use sets::node_set::add;
+use sets::node_set::has as has_node;
+use sets::states::has as has_site;
+use sets::states::with;
+ghost use mathlib.Core.Path.{_≡_};
+ghost use mathlib.Core.Bool.{not, _&&_};
+ghost use mathlib.Core.List.{map};
+ghost use Prim.Native.Nat.{suc, _-_, _≤_};
+ghost use lib.Dec.{eqb, ltb};
+ghost use lib.ListN.{length};
+ghost use Rattle.sets.specs.Sets.{any, filter};
+ghost use Rattle.files.specs.Word.{words};
+ghost use Rattle.files.specs.Refuse.{_unless_};
+ghost use Rattle.files.specs.Outcome.{zeros};
+ghost use Rattle.files.specs.Field.{kindOf, sizeOf, nodeOf, pairOf, pairNode, doorRootOf};
+ghost use Rattle.files.specs.Reply.{isDoorWord, roots};
+ghost use Rattle.files.specs.Bundle.{headers, headersCheck, twice, clashing, doorOf, strays};
+
+// Whether a header's site was seen, or its n is another.
+fn clashes(sites: u16, n: u32, h: u32) -> bool
+    ensures { λ r. ⌜ r ≡ clashing sites n h ⌝ }
+{
+    has_site(sites, site(h)) | !(labels(h) == n)
+}
+
+// How many words on the next file starts, at least one.
+fn step(h: u32) -> usize
+    ensures { λ r. ⌜ r ≡ suc (sizeOf h - 1) ⌝ }
+{
+    let len = size(h) as usize;
+    if len == 0 { 1 } else { len }
+}
+
+// 12: a site twice, or a different n.
+pub fn check_headers(bundle: &[u8]) -> u32
+    ensures { λ r. ⌜ r ≡ headersCheck (headers (length (words (now (bundle .entry)))) (words (now (bundle .entry)))) ⌝ }
+{
+    let count = bundle.len() / 4;
+    let n = labels(word_at(bundle, 0));
+    let mut sites: u16 = 0;
+    let mut start = 0;
+    while start < count {
+        let h = word_at(bundle, start);
+        if clashes(sites, n, h) {
+            return 12;
+        }
+        sites = with(sites, site(h));
+        start += step(h);
+    }
+    0
+}
+
+fn is_root(w: u32) -> bool
+    ensures { λ r. ⌜ r ≡ (isDoorWord w && doorRootOf w) ⌝ }
+{
+    is_door(w) & door_root(w)
+}
+
+fn count_roots(bundle: &[u8]) -> usize
+    ensures { λ r. ⌜ r ≡ length (roots (words (now (bundle .entry)))) ⌝ }
+{
+    let mut count = 0;
+    let mut cur = Cursor { at: 0 };
+    loop {
+        match cur.read(bundle) {
+            Step::Word(w, next) => {
+                cur = next;
+                if is_root(w) {
+                    count += 1;
+                }
+            }
+            Step::End => {
+                return count;
+            }
+        }
+    }
+}
+
+// 7: not one root.
+pub fn check_roots(bundle: &[u8]) -> u32
+    ensures { λ r. ⌜ r ≡ (7 unless eqb (length (roots (words (now (bundle .entry))))) 1) ⌝ }
+{
+    refuse(7, count_roots(bundle) == 1)
+}
+
+// Whether a node stands in two words of kind k; the nodes seen are a set in the cleared working buffer.
+fn has_twice(bundle: &[u8], work: &mut [u8], k: u32) -> bool
+    requires { ⌜ 8192 ≤ length (now work) ⌝ }
+    requires { ⌜ now work ≡ zeros (length (now work)) ⌝ }
+    ensures { λ r. ⌜ r ≡ twice (map nodeOf (filter (λ w. eqb (kindOf w) k) (words (now (bundle .entry))))) ⌝ }
+    ensures { λ _. ⌜ length (now (work .exit)) ≡ length (now (work .entry)) ⌝ }
+{
+    let mut cur = Cursor { at: 0 };
+    loop {
+        match cur.read(bundle) {
+            Step::Word(w, next) => {
+                cur = next;
+                if kind(w) == k {
+                    let x = node(w);
+                    if has_node(work, 0, x) {
+                        return true;
+                    }
+                    add(work, 0, x);
+                }
+            }
+            Step::End => {
+                return false;
+            }
+        }
+    }
+}
+
+// 13: a node in two words of kind k.
+pub fn check_twice(bundle: &[u8], work: &mut [u8], k: u32) -> u32
+    requires { ⌜ 8192 ≤ length (now work) ⌝ }
+    ensures { λ r. ⌜ r ≡ (13 unless not (twice (map nodeOf (filter (λ w. eqb (kindOf w) k) (words (now (bundle .entry))))))) ⌝ }
+    ensures { λ _. ⌜ length (now (work .exit)) ≡ length (now (work .entry)) ⌝ }
+{
+    clear(work);
+    refuse(13, !has_twice(bundle, work, k))
+}
+
+// The node of a reach word.
+fn reach_node(w: u32) -> u32
+    ensures { λ r. ⌜ r ≡ pairNode (pairOf w) ⌝ }
+{
+    w % 0x10_0000 / 16
+}
+
+fn is_door_of(w: u32, x: u32) -> bool
+    ensures { λ r. ⌜ r ≡ doorOf x w ⌝ }
+{
+    is_door(w) & (x == node(w))
+}
+
+// The index of the first reach word whose node is no door, or the number of words: there the scan stops.
+fn first_stray(bundle: &[u8]) -> usize
+    ensures { λ r. ⌜ ltb r (length (words (now (bundle .entry)))) ≡ any (strays (words (now (bundle .entry)))) (words (now (bundle .entry))) ⌝ }
+{
+    let count = bundle.len() / 4;
+    let mut i = 0;
+    'words: while i < count {
+        let w = word_at(bundle, i);
+        if is_reach(w) {
+            let x = reach_node(w);
+            let mut k = 0;
+            loop {
+                if k == count {
+                    break 'words;
+                }
+                if is_door_of(word_at(bundle, k), x) {
+                    break;
+                }
+                k += 1;
+            }
+        }
+        i += 1;
+    }
+    i
+}
+
+// 14: a reach word's node is no door.
+pub fn check_strays(bundle: &[u8]) -> u32
+    ensures { λ r. ⌜ r ≡ (14 unless not (any (strays (words (now (bundle .entry)))) (words (now (bundle .entry))))) ⌝ }
+{
+    let i = first_stray(bundle);
+    refuse(14, !(i < bundle.len() / 4))
+}

@@ -1,0 +1,17 @@
+pub mod Checks
+pub mod Words
+pub mod Bytes
+pub mod Reading
+pub mod Scans
+pub mod Headers
+pub mod Buffers
+pub mod Exprs
+pub mod Settling
+pub mod Fields
+pub mod Blocks
+pub mod Parts
+pub mod Ordered
+pub mod Replies
+pub mod Rows
+pub mod Files
+pub mod Bundles

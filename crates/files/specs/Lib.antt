@@ -1,0 +1,14 @@
+pub mod Word
+pub mod Field
+pub mod Refuse
+pub mod Scan
+pub mod Outcome
+pub mod Read
+pub mod Part
+pub mod Cuts
+pub mod Path
+pub mod Expr
+pub mod Reply
+pub mod Calls
+pub mod Answers
+pub mod Bundle

@@ -1,0 +1,67 @@
+-- A path: an expression in postfix, at most 64 words with the header. Document 01, "Path".
+use Prim.Native.Nat.{ℕ, suc, _-_}
+use mathlib.Core.Bool.{Bool, true, false, cond, _&&_}
+use mathlib.Core.List.{List, [], _∷_}
+use lib.Dec.{eqb, leb}
+use lib.ListN.{length, getD}
+use Rattle.sets.specs.Sets.{filter}
+use Rattle.files.specs.Field.{bits, kindOf, labelsOf}
+use Rattle.files.specs.Refuse.{_then_, _unless_, fileCheck}
+use Rattle.files.specs.Scan.{scanWords}
+
+-- the most operands that wait at any word
+abbrev pub mostWaiting : ℕ
+mostWaiting = 16
+
+abbrev pub isLabel : ℕ → Bool
+isLabel w = eqb (kindOf w) 5
+
+abbrev pub sortOf : ℕ → ℕ
+sortOf w = bits 27 24 w
+
+abbrev pub highOf : ℕ → ℕ
+highOf w = bits 23 12 w
+
+abbrev pub lowOf : ℕ → ℕ
+lowOf w = bits 11 0 w
+
+abbrev pub groupOf : ℕ → ℕ
+groupOf w = bits 2 0 w
+
+-- 0 empty word, 1 then, 2 or, 3 star
+abbrev pub operatorOf : ℕ → ℕ
+operatorOf w = bits 1 0 w
+
+abbrev pub labelCheck : ℕ → ℕ
+labelCheck w =
+    cond (eqb (sortOf w) 0) (5 unless leb (lowOf w) (highOf w)) (5 unless (eqb (sortOf w) 1 && eqb (bits 23 3 w) 0))
+
+abbrev pub operatorCheck : ℕ → ℕ
+operatorCheck w = 5 unless (eqb (kindOf w) 6 && eqb (bits 27 2 w) 0)
+
+-- the operands that a word takes
+abbrev pub takes : ℕ → ℕ
+takes w = cond (isLabel w) 0 (getD (0 ∷ 2 ∷ 2 ∷ 1 ∷ []) (operatorOf w) 0)
+
+-- the operands that wait after a word
+abbrev pub waits : ℕ → ℕ → ℕ
+waits waiting w = suc (waiting - takes w)
+
+abbrev pub wordCheck : ℕ → ℕ → ℕ
+wordCheck waiting w =
+    cond (isLabel w) (labelCheck w) (operatorCheck w)
+    then 9 unless (leb (takes w) waiting && leb (waits waiting w) mostWaiting)
+
+-- not one left
+abbrev pub endCheck : ℕ → ℕ
+endCheck waiting = 9 unless eqb waiting 1
+
+abbrev pub scan : ℕ → List ℕ → ℕ
+scan waiting ws = scanWords wordCheck waits endCheck waiting ws
+
+-- the words after a header: not n label words at the end
+abbrev pub bodyCheck : ℕ → List ℕ → ℕ
+bodyCheck h ws = scan 0 ws then 9 unless eqb (length (filter isLabel ws)) (labelsOf h)
+
+abbrev pub pathCheck : List ℕ → ℕ
+pathCheck ws = fileCheck 4 false true bodyCheck ws

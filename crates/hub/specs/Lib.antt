@@ -1,0 +1,4 @@
+pub mod CallList
+pub mod Search
+pub mod Join
+pub mod Write

@@ -1,0 +1,181 @@
+-- The answers that are written are those that the definitions ask for. Assumes nothing.
+use mathlib.Core.Path.{_≡_, refl, sym, _∙_, ap, subst}
+use mathlib.Core.Logic.{_↔_, inl, Iff·rfl}
+use mathlib.Core.Bool.{Bool, true, false, not}
+use mathlib.Core.List.{List, [], _∷_, _++_, map, map-map, append-nil, append-assoc, Memᴰ·map, Memᴰ·of-map}
+use Prim.Native.Nat.{ℕ, zero, suc, _+_, _%_, _^_, _≤_, _<_}
+use native.Mathlib.Omega.{arith}
+use native.Mathlib.Nat.{zero-add}
+use native.Mathlib.Numerals.{add-one}
+use lib.Dec.{T, eqb}
+use lib.Bits.{bitAnd, and-le-r}
+use lib.Count.{trailingZeros}
+use borrow.Author.Tests.{eq-eqb, ne-eqb}
+use lib.ListN.{length, getD, drop}
+use Rattle.sets.specs.Sets.{Mem, here, there, Ascending, Lists}
+use Rattle.sets.proofs.Tests.{passed, is-true}
+use Rattle.sets.proofs.Cases.{and-left, and-right, and-intro, clash}
+use Rattle.sets.specs.Reach.{Reach}
+use Rattle.sets.specs.States.{hasState, keep, members}
+use Rattle.sets.proofs.Members.{members-in, in-members}
+use Rattle.sets.proofs.Sets.{lists-unique}
+use Rattle.sets.proofs.Filter.{map-append}
+use Rattle.sets.proofs.StateSets.{has-and, has-empty, lowest-is}
+use Rattle.files.specs.Field.{answerWord, pair}
+use Rattle.files.specs.Part.{nodes}
+use Rattle.files.proofs.Fields.{node-below}
+use Rattle.output.specs.Writer.{Written}
+use Rattle.paths.specs.Expr.{Expr, count}
+use Rattle.paths.specs.Positions.{accepts}
+use Rattle.walks.specs.Product.{stepIn, answers}
+use Rattle.slots.specs.Slots.{nodeAt, number, reachedOf, isReached, Laid}
+use Rattle.walks.specs.Search.{Follow, Masked, Marks, Searched}
+use Rattle.walks.proofs.Product.{accepts-small, answers-lists}
+use Rattle.slots.proofs.Places.{node-in, in-node, node-below as node-within, nodes-rise, nodes-same, rising}
+use Rattle.listing.specs.Listing.{lands, answerHere, answerWords}
+
+-- one number more
+pub members-more : (p : ℕ → Bool) (at d : ℕ) → members p at (suc d) ≡ members p at d ++ keep (p (at + d)) (at + d) []
+unfolding members
+members-more p at zero = let e : at + 0 ≡ at = omega arith in rw e
+members-more p at (suc d) =
+    let e : at + suc d ≡ suc at + d = omega arith in
+    ap (keep (p at) at) (members-more p (suc at) d) ∙ keep-append (p at) at (members p (suc at) d) _ ∙ rw e
+  where
+    keep-append : (b : Bool) (x : ℕ) (xs ys : List ℕ) → keep b x (xs ++ ys) ≡ keep b x xs ++ ys
+    keep-append true x xs ys = refl
+    keep-append false x xs ys = refl
+
+-- a node's number is below 2 ^ 16, whatever the word
+pub answer-is : (ws : List ℕ) (i : ℕ) {x : ℕ} → x ≡ number ws i → 0xe0000000 + x % 65536 ≡ answerWord (number ws i)
+unfolding number
+answer-is ws i e = omega (arith, node-below (getD ws i 0))
+
+module _ {limit n : ℕ} (part w : List ℕ) (accepts i : ℕ) where
+  -- an answer was written, or there is none
+  pub answer-some : (ws : List ℕ) {b : Bool} {v r count : ℕ} {out out′ : List ℕ} → b ≡ true → b ≡ lands part w accepts i → v ≡ answerWord (number part i)
+      → ((us : List ℕ) → Written limit n us out count → Written limit n (us ++ v ∷ []) out′ r) → Written limit n ws out count → Written limit n (ws ++ answerHere part w accepts i) out′ r
+  answer-some ws h e f g r = rw (← e, h, ← f) (g ws r)
+
+  pub answer-none : (ws : List ℕ) {b : Bool} {count : ℕ} {out : List ℕ} → b ≡ false → b ≡ lands part w accepts i → Written limit n ws out count → Written limit n (ws ++ answerHere part w accepts i) out count
+  answer-none ws h e r = rw (← e, h, append-nil) r
+
+-- the answers of the first i positions are written
+pub record Listed (limit n : ℕ) (part w : List ℕ) (accepts : ℕ) (out₀ : List ℕ) (start : ℕ) (out : List ℕ) (count i : ℕ) : Type 0 where
+  pub written : (ws : List ℕ) → Written limit n ws out₀ start → Written limit n (ws ++ answerWords part w accepts i) out count
+  pub same : length out ≡ n
+
+pub listed-none : (limit : ℕ) (part w : List ℕ) (accepts : ℕ) (out : List ℕ) (start : ℕ) → Listed limit (length out) part w accepts out start out start 0
+unfolding members
+listed-none limit part w accepts out start = record { written = λ ws r. rw append-nil r; same = refl }
+
+pub listed-more : {limit n : ℕ} {part w : List ℕ} {accepts : ℕ} {out₀ : List ℕ} {start : ℕ} {out out′ : List ℕ} {count r i : ℕ}
+    → Listed limit n part w accepts out₀ start out count i → length out′ ≡ length out
+    → ((ws : List ℕ) → Written limit (length out) ws out count
+    → Written limit (length out) (ws ++ answerHere part w accepts i) out′ r)
+    → Listed limit n part w accepts out₀ start out′ r (i + 1)
+listed-more {limit} {n} {part} {w} {accepts} {out₀} {start} {out} {out′} {count} {r} {i} l e f = record {
+  written = λ ws s.
+      let g : Written limit n ((ws ++ answerWords part w accepts i) ++ answerHere part w accepts i) out′ r =
+      rw (l .same) at (f (ws ++ answerWords part w accepts i) (rw (l .same) (l .written ws s))) in
+      rw (add-one, members-more (lands part w accepts) 0 i, zero-add i, map-append (λ j. answerWord (number part j)) (members (lands part w accepts) 0 i), ← append-assoc) g;
+  same = e ∙ l .same;
+}
+
+pub listed-all : {limit n : ℕ} {part w : List ℕ} {accepts : ℕ} {out₀ : List ℕ} {start : ℕ} {out : List ℕ} {count i : ℕ}
+    → i ≡ length part → Listed limit n part w accepts out₀ start out count i
+    → (ws : List ℕ) → Written limit n ws out₀ start → Written limit n (ws ++ answerWords part w accepts (length part)) out count
+listed-all e l ws r = rw (← e) (l .written ws r)
+
+-- ---- what the words are
+
+pub members-ascending : (p : ℕ → Bool) (at d : ℕ) → Ascending (members p at d)
+unfolding members
+members-ascending p at zero = tt
+members-ascending p at (suc d) = go (p at) (members-ascending p (suc at) d)
+  where
+    go : (b : Bool) → Ascending (members p (suc at) d) → Ascending (keep b at (members p (suc at) d))
+    go true a = (λ y m. in-members p (suc at) d y m .0, a)
+    go false a = a
+
+pub number-below : (ws : List ℕ) (i : ℕ) → number ws i < 2 ^ 16
+unfolding number
+number-below ws i = node-below (getD ws i 0)
+
+lands-node : (ws w : List ℕ) (a i : ℕ) → lands ws w a i ≡ true → nodeAt ws i ≡ true
+unfolding lands
+lands-node ws w a i e = and-left (nodeAt ws i) (not (eqb (bitAnd (reachedOf w i) a) 0)) e
+
+lands-some : (ws w : List ℕ) (a i : ℕ) → nodeAt ws i ≡ true → lands ws w a i ≡ true ↔ (bitAnd (reachedOf w i) a ≡ 0 → ⊥)
+unfolding lands
+lands-some ws w a i n = rw n (
+  λ e k. clash (rw (eq-eqb (bitAnd (reachedOf w i) a) 0 k) at e) refl,
+  λ k. rw (ne-eqb (bitAnd (reachedOf w i) a) 0 k),
+)
+
+-- numbers rise with the positions of nodes
+numbers-ascending : (ws : List ℕ) → Ascending (nodes ws) → (is : List ℕ) → Ascending is → ((i : ℕ) → Mem i is → nodeAt ws i ≡ true) → Ascending (map (number ws) is)
+numbers-ascending ws r [] a n = tt
+numbers-ascending ws r (i ∷ is) a n = (
+  λ x m. let (j, k, e) = Memᴰ·of-map (number ws) is m in
+      rw (← e) (nodes-rise ws i j r (n i (here refl)) (n j (there k)) (a .0 j k)),
+  numbers-ascending ws r is (a .1) (λ j m. n j (there m)),
+)
+
+-- After a search the words are those of the answers.
+module _ (ws : List ℕ) (t : ℕ) (follow w w′ : List ℕ) (s : Searched ws t follow w w′) (laid : Laid ws t w)
+    (e : Expr) (cs : List ℕ) (f : Follow e follow) (masked : Masked ws e w) (marks : Marks ws w cs)
+    (accept : ℕ) (small : accept < 2 ^ 16) (are : (q : ℕ) → hasState accept q ≡ accepts e q) where
+  abbrev Hit : ℕ → Type 0
+  Hit x = (q : ℕ) × Reach (stepIn (drop 1 ws) e) cs (pair x q) × T (accepts e q)
+
+  -- a node lands just if it is reached in an accepting state
+  lands-iff : (i : ℕ) → nodeAt ws i ≡ true → lands ws w′ accept i ≡ true ↔ Hit (number ws i)
+  lands-iff i n = (λ l. to (lands-some ws w′ accept i n .0 l), λ h. lands-some ws w′ accept i n .1 (from h))
+    where
+      both : ℕ
+      both = bitAnd (reachedOf w′ i) accept
+
+      reach : (q : ℕ) → q < 16 → (isReached w′ i q ≡ true) ↔ Reach (stepIn (drop 1 ws) e) cs (pair (number ws i) q)
+      reach q = s .exact e cs f masked marks i q (node-within ws i n, inl n)
+
+      to : (both ≡ 0 → ⊥) → Hit (number ws i)
+      to h =
+          let (k, m, b) = lowest-is 16 both (omega (arith, h)) (omega (arith, and-le-r (reachedOf w′ i) accept)) in
+          let q = trailingZeros 16 both in
+          let c = sym (has-and (reachedOf w′ i) accept q) ∙ m in
+          (q, reach q k .0 (and-left (isReached w′ i q) (hasState accept q) c), passed (sym (are q) ∙ and-right (isReached w′ i q) (hasState accept q) c))
+
+      from : Hit (number ws i) → both ≡ 0 → ⊥
+      from (q, r, t) z =
+          let k : q < 16 = omega (arith, f .small, accepts-small e q t) in
+          let c : hasState both q ≡ true = has-and (reachedOf w′ i) accept q ∙ and-intro (isReached w′ i q) (hasState accept q) (reach q k .1 r) (are q ∙ is-true (accepts e q) t) in
+          clash c (ap (λ x. hasState x q) z ∙ has-empty q)
+
+  abbrev positions : List ℕ
+  positions = members (lands ws w′ accept) 0 (length ws)
+
+  landed : (i : ℕ) → Mem i positions → lands ws w′ accept i ≡ true
+  landed i m = in-members (lands ws w′ accept) 0 (length ws) i m .2
+
+  listed : Lists (λ x. Mem x (nodes (drop 1 ws)) × Hit x) (map (number ws) positions)
+  listed = record {
+    ascending = numbers-ascending ws (rising ws (laid .accepted)) positions (members-ascending (lands ws w′ accept) 0 (length ws))
+        (λ i m. lands-node ws w′ accept i (landed i m));
+    sound = λ x m.
+        let (i, k, q) = Memᴰ·of-map (number ws) positions m in
+        let n = lands-node ws w′ accept i (landed i k) in
+        subst (λ y. Mem y (nodes (drop 1 ws)) × Hit y) q (rw (nodes-same ws (laid .accepted)) (node-in ws i n), lands-iff i n .0 (landed i k));
+    complete = λ x (m, h).
+        let (i, n, q) = in-node ws x (rw (nodes-same ws (laid .accepted)) at m) in
+        subst (λ y. Mem y (map (number ws) positions)) q (Memᴰ·map (number ws)
+        (members-in (lands ws w′ accept) 0 (length ws) i (omega arith) (omega (arith, node-within ws i n)) (lands-iff i n .1 (subst Hit (sym q) h))));
+  }
+
+  marked-below : (c : ℕ) → Mem c cs → c < 2 ^ 20
+  marked-below c m = let (j, l, n, q, r) = marks .complete c m in omega (arith, number-below ws j)
+
+  pub answers-are : answerWords ws w′ accept (length ws) ≡ map answerWord (answers (drop 1 ws) e cs)
+  answers-are =
+      sym (map-map answerWord (number ws) positions)
+      ∙ ap (map answerWord) (lists-unique listed (answers-lists (drop 1 ws) e (f .small) cs marked-below (rw (nodes-same ws (laid .accepted)) (rising ws (laid .accepted)))) (λ x. Iff·rfl))

@@ -1,0 +1,12 @@
+pub mod Comes
+pub mod OldSearch
+pub mod Cross
+pub mod Bundles
+pub mod Host
+pub mod Accepts
+pub mod PlantOf
+pub mod Cutter
+pub mod Demand
+pub mod Asked
+pub mod Table
+pub mod Vectors

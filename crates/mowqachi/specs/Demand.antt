@@ -1,0 +1,124 @@
+-- The user's demands 2 and 3, and the bound on traffic.
+use Prim.Native.Nat.{ℕ, suc, _*_, _≤_, _<_}
+use mathlib.Core.Path.{_≡_}
+use mathlib.Core.List.{List, map, flatten}
+use lib.ListN.{length, drop, getD}
+use Rattle.sets.specs.Sets.{Mem, Perm, filter}
+use Rattle.files.specs.Word.{words, bytesOf}
+use Rattle.files.specs.Field.{labelsOf}
+use Rattle.files.specs.Outcome.{accepted}
+use Rattle.files.specs.Part.{doors, outside, partCheck}
+use Rattle.files.specs.Path.{pathCheck}
+use Rattle.files.specs.Reply.{isReach}
+use Rattle.files.specs.Answers.{answersOf}
+use Rattle.paths.specs.Labels.{exprOf}
+use Rattle.site.specs.First.{firstReply}
+use Rattle.site.specs.Second.{secondReply}
+use Rattle.hub.specs.CallList.{callList}
+use Rattle.whole.specs.Old.{oldSearchCall}
+use Rattle.mowqachi.specs.Plant.{Plant, OneRoot, Closed, TrueCut, Fits, Words, FinalList}
+use Rattle.mowqachi.specs.Question.{Buffers, Room, Call, first, calls, second, join, Asking, stopped, going, Answer, ask}
+
+-- n bytes are enough for a result of `limit` words, and m for the work
+abbrev pub Enough : ℕ → ℕ → ℕ → Type 0
+Enough limit n m = (4 * limit ≤ n) × (32768 ≤ m)
+
+-- a path that every site accepts, by its words
+abbrev pub AcceptedPath : List ℕ → Type 0
+AcceptedPath path = Words path × (length path ≤ 64) × (pathCheck path ≡ 0)
+
+-- Demand 2: of a plant that fits one file, and for every accepted path, the old search lists exactly the nodes to which a walk from the root
+-- spells a word of the expression, textbook meaning, ascending, each once.
+abbrev pub Demand2 : Type 1
+Demand2 = (p : Plant) (whole path : List ℕ) → Fits p whole → AcceptedPath path → (n m : ℕ) → Enough 8192 n m
+    → (final : List ℕ) × (oldSearchCall n m (bytesOf whole) (bytesOf path) ≡ accepted final) × FinalList p (exprOf (drop 1 path)) final
+
+-- Demand 3's givens: a plant with one root and no link that ends outside it, a true cut of it, and a path that all sites accept. That the parts
+-- are one to sixteen, as sites are 0 to 15, follows from the rest (`some-part` and `few-parts` of proofs/Cutter.antt), and is said for the reader.
+pub record Asked : Type 1 where
+  pub plant : Plant
+  pub one-root : OneRoot plant
+  pub closed : Closed plant
+  pub parts : List (List ℕ)
+  pub some-part : 1 ≤ length parts
+  pub few-parts : length parts ≤ 16
+  pub cut : TrueCut plant parts
+  pub path : List ℕ
+  pub path-accepted : AcceptedPath path
+
+module _ (q : Asked) where
+  -- what the calls owe
+  abbrev pub firstOf : List ℕ → List ℕ
+  firstOf f = firstReply f (q .path)
+
+  abbrev pub secondOf : List ℕ → List ℕ → List ℕ
+  secondOf list f = secondReply f (q .path) list
+
+  -- buffers that are enough for each call
+  pub record EnoughRoom (room : Room) : Type 0 where
+    pub first : (f : List ℕ) → Mem f (q .parts) → Enough 4096 (room .first (bytesOf f) .out) (room .first (bytesOf f) .work)
+    pub calls : Enough 4096 (room .calls .out) (room .calls .work)
+    pub second : (f : List ℕ) → Mem f (q .parts) → Enough 4096 (room .second (bytesOf f) .out) (room .second (bytesOf f) .work)
+    pub join : Enough 8192 (room .join .out) (room .join .work)
+
+  -- the sites in two orders, each once, and buffers for the calls
+  pub record Put : Type 0 where
+    pub order : List (List ℕ)
+    pub order′ : List (List ℕ)
+    pub once : Perm order (q .parts)
+    pub once′ : Perm order′ (q .parts)
+    pub room : Room
+    pub enough : EnoughRoom room
+
+  module _ (u : Put) where
+    -- the question that is asked
+    abbrev pub question : Asking Answer
+    question = ask (u .room) (bytesOf (q .path)) (map bytesOf (u .order)) (map bytesOf (u .order′))
+
+    -- the first bundle, the call list that the hub owes from it, and the second bundle
+    abbrev pub bundle : List ℕ
+    bundle = flatten (map firstOf (u .order))
+
+    abbrev pub list : List ℕ
+    list = callList bundle
+
+    abbrev pub bundle′ : List ℕ
+    bundle′ = flatten (map (secondOf list) (u .order′))
+
+    -- the first reply or call list that a call owes is over its limit
+    abbrev pub Over : Call → Type 0
+    Over (first part) = (f : List ℕ) × Mem f (q .parts) × (part ≡ bytesOf f) × (4096 < length (firstOf f))
+    Over calls = 4096 < length list
+    Over (second part) = ⊥
+    Over join = ⊥
+
+    -- no bundle that is made is over its limit
+    pub record SmallBundles : Type 0 where
+      pub first : ((f : List ℕ) → Mem f (q .parts) → length (firstOf f) ≤ 4096) → length bundle ≤ 8192
+      pub second : ((by : Call) → Over by → ⊥) → length bundle′ ≤ 8192
+
+    -- Demand 3, of the run of the whole question
+    pub record Claim : Type 0 where
+      -- a call refuses only if the first reply or call list that it owes is over its limit, and then with 15
+      pub stops : (by : Call) (k : ℕ) → question ≡ stopped by k → (k ≡ 15) × Over by
+      -- and where some call owes such a one, the question is ended by one that does
+      pub over : (by : Call) → Over by → (c : Call) × Over c × (question ≡ stopped c 15)
+      -- where none does, the joined list is demand 2's list; the second replies together hold exactly the listed nodes, each once; and the
+      -- list is equal in every word to the old search's wherever the plant fits one file
+      pub ends : ((by : Call) → Over by → ⊥) → (a : Answer) × (question ≡ going a)
+          × FinalList (q .plant) (exprOf (drop 1 (q .path))) (words (a .final))
+          × Perm (answersOf (words (flatten (a .seconds)))) (answersOf (words (a .final)))
+          × ((whole : List ℕ) → Fits (q .plant) whole → (n m : ℕ) → Enough 8192 n m
+          → oldSearchCall n m (bytesOf whole) (bytesOf (q .path)) ≡ accepted (words (a .final)))
+
+-- whatever its part and path, a site with D doors and T outside targets sends at most D × T × n × (n + 1) reach words
+abbrev pub Traffic : Type 0
+Traffic =
+    (part path : List ℕ) → partCheck part ≡ 0 → pathCheck path ≡ 0
+    → length (filter isReach (drop 1 (firstReply part path)))
+    ≤ length (doors (drop 1 part)) * length (outside (drop 1 part)) * labelsOf (getD path 0 0) * suc (labelsOf (getD path 0 0))
+
+-- Demand 3, entire: one claim about the question, for every plant, cut, path, two orders and buffers; and the bound on traffic
+pub record Demand3 : Type 1 where
+  pub claim : (q : Asked) (u : Put q) → SmallBundles q u → Claim q u
+  pub traffic : Traffic

@@ -1,0 +1,5 @@
+pub mod Plant
+pub mod PlantOf
+pub mod Question
+pub mod Demand
+pub mod Table

@@ -1,0 +1,93 @@
+// The calls, under the names that the C host uses. Each has no precondition, and its contract is one equation: what it leaves in number,
+// output and working buffer is what document 01's definition gives. Demand 3 (proofs/Demand.antt) is about these outcomes.
+ghost use mathlib.Core.Path.{_≡_};
+ghost use lib.ListN.{length};
+ghost use Rattle.files.specs.Outcome.{left, leaves};
+ghost use Rattle.site.specs.First.{firstReplyCall};
+ghost use Rattle.site.specs.Second.{secondReplyCall};
+ghost use Rattle.hub.specs.CallList.{callListCall};
+ghost use Rattle.hub.specs.Join.{joinCall};
+ghost use Rattle.whole.specs.Old.{oldSearchCall};
+ghost use Rattle.whole.specs.Cut.{cutCall};
+use hub::call_list::call_list;
+use hub::join_call::join;
+use site::answering::second_reply;
+use site::first_call::first_reply;
+use whole::cutting::cut;
+use whole::searching::old_search;
+
+#[no_mangle]
+pub extern "C" fn mowqachi_old_search(
+    whole: &[u8],
+    path: &[u8],
+    out: &mut [u8],
+    work: &mut [u8],
+) -> u32
+    ensures { λ r. ⌜ left r (now (out .exit)) (now (work .exit))
+        ≡ leaves (oldSearchCall (length (now (out .entry))) (length (now (work .entry))) (now (whole .entry)) (now (path .entry)))
+        (length (now (out .entry))) (length (now (work .entry))) ⌝ }
+{
+    old_search(whole, path, out, work)
+}
+
+#[no_mangle]
+pub extern "C" fn mowqachi_cut(
+    whole: &[u8],
+    cuts: &[u8],
+    site: u32,
+    out: &mut [u8],
+    work: &mut [u8],
+) -> u32
+    ensures { λ r. ⌜ left r (now (out .exit)) (now (work .exit))
+        ≡ leaves (cutCall (length (now (out .entry))) (length (now (work .entry))) (now (whole .entry)) (now (cuts .entry)) site)
+        (length (now (out .entry))) (length (now (work .entry))) ⌝ }
+{
+    cut(whole, cuts, site, out, work)
+}
+
+#[no_mangle]
+pub extern "C" fn mowqachi_first_reply(
+    part: &[u8],
+    path: &[u8],
+    out: &mut [u8],
+    work: &mut [u8],
+) -> u32
+    ensures { λ r. ⌜ left r (now (out .exit)) (now (work .exit))
+        ≡ leaves (firstReplyCall (length (now (out .entry))) (length (now (work .entry))) (now (part .entry)) (now (path .entry)))
+        (length (now (out .entry))) (length (now (work .entry))) ⌝ }
+{
+    first_reply(part, path, out, work)
+}
+
+#[no_mangle]
+pub extern "C" fn mowqachi_call_list(bundle: &[u8], out: &mut [u8], work: &mut [u8]) -> u32
+    ensures { λ r. ⌜ left r (now (out .exit)) (now (work .exit))
+        ≡ leaves (callListCall (length (now (out .entry))) (length (now (work .entry))) (now (bundle .entry)))
+        (length (now (out .entry))) (length (now (work .entry))) ⌝ }
+{
+    call_list(bundle, out, work)
+}
+
+#[no_mangle]
+pub extern "C" fn mowqachi_second_reply(
+    part: &[u8],
+    path: &[u8],
+    calls: &[u8],
+    out: &mut [u8],
+    work: &mut [u8],
+) -> u32
+    ensures { λ r. ⌜ left r (now (out .exit)) (now (work .exit))
+        ≡ leaves (secondReplyCall (length (now (out .entry))) (length (now (work .entry))) (now (part .entry)) (now (path .entry)) (now (calls .entry)))
+        (length (now (out .entry))) (length (now (work .entry))) ⌝ }
+{
+    second_reply(part, path, calls, out, work)
+}
+
+#[no_mangle]
+pub extern "C" fn mowqachi_join(bundle: &[u8], out: &mut [u8], work: &mut [u8]) -> u32
+    ensures { λ r. ⌜ left r (now (out .exit)) (now (work .exit))
+        ≡ leaves (joinCall (length (now (out .entry))) (length (now (work .entry))) (now (bundle .entry)))
+        (length (now (out .entry))) (length (now (work .entry))) ⌝ }
+{
+    join(bundle, out, work)
+}

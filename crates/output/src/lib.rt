@@ -1,0 +1,2 @@
+// What calls write: words one after another, counted.
+pub mod writer;

@@ -1,0 +1,9 @@
+pub mod Expr
+pub mod Positions
+pub mod Postfix
+pub mod Labels
+pub mod Interval
+pub mod Operand
+pub mod Letters
+pub mod Builder
+pub mod Automaton

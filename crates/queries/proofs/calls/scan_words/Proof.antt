@@ -1,0 +1,35 @@
+-- `queries::calls::scan_words` meets its contract.
+-- Assumes nothing.
+use borrow.Author.Needs.{needs}
+use Prim.Native.Nat.{_-_}
+use mathlib.Core.Path.{refl}
+use lib.ListN.{length, drop}
+use Rattle.files.specs.Word.{words}
+use Rattle.files.specs.Scan.{inOrder, scanOrdered}
+use Rattle.files.specs.Calls.{callCheck}
+use Rattle.files.proofs.Reading.{fewer}
+use Rattle.files.proofs.Scans.{Scanning, scanning-refused, scanning-more, scanning-last}
+use Rattle.queries.proofs.calls.scan_words.Statement.{statement}
+use Rattle.queries.proofs.calls.scan_words.Tie as tie
+
+abbrev Inv-loop : tie.InvT-loop
+Inv-loop bytes n last₀ cur₀ last cur = Scanning (inOrder (callCheck n)) (λ last w. w) (λ last. 0) bytes (scanOrdered (callCheck n) 0 (drop 1 (words bytes))) last (cur .at)
+
+abbrev μ-loop : tie.MeasureT-loop
+μ-loop bytes n last₀ cur₀ last cur = length (words bytes) - cur .at
+
+pub scan-words-spec : {M : Type 1} → statement M
+scan-words-spec =
+    tie.close
+    (tie.spec
+    Inv-loop
+    μ-loop
+    (λ c. record { same = refl })
+    (λ c. search needs)
+    (λ c. search needs)
+    (λ c. search needs)
+    (λ c. search (scanning-refused, needs))
+    (λ c. search (fewer, needs))
+    (λ c. search (scanning-more, needs))
+    (λ c. search needs)
+    (λ c. search (scanning-last, needs)))

@@ -1,0 +1,5 @@
+pub mod Places
+pub mod Sorting
+pub mod Owning
+pub mod Resolving
+pub mod Laying

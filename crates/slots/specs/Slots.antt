@@ -1,0 +1,95 @@
+-- A part by the positions of its words, the header's being 0, and the slots of a search: a node of the part has its slot at its node word,
+-- a target outside the part at the first edge word that leads to it.
+use mathlib.Core.Path.{_≡_}
+use mathlib.Core.Bool.{Bool, true, false, not, _&&_}
+use mathlib.Core.List.{List}
+use Prim.Native.Nat.{ℕ, _+_, _≤_, _<_}
+use lib.Dec.{eqb}
+use lib.ListN.{length, getD}
+use Rattle.sets.specs.States.{hasState}
+use Rattle.sets.specs.Table.{half}
+use Rattle.sets.specs.Tally.{tally}
+use Rattle.files.specs.Field.{nodeOf}
+use Rattle.files.specs.Part.{isNode, isEdge, partCheck}
+
+unfoldable pub nodeAt : List ℕ → ℕ → Bool
+nodeAt ws i = isNode (getD ws i 0)
+
+unfoldable pub edgeAt : List ℕ → ℕ → Bool
+edgeAt ws i = isEdge (getD ws i 0)
+
+-- the number of a node word, and the target of an edge word
+unfoldable pub number : List ℕ → ℕ → ℕ
+number ws i = nodeOf (getD ws i 0)
+
+-- the word at x is an edge word of the node word at i: from the one to the other there are edge words only
+pub record Behind (ws : List ℕ) (i x : ℕ) : Type 0 where
+  pub node : nodeAt ws i ≡ true
+  pub after : i < x
+  pub below : x < length ws
+  pub edges : (k : ℕ) → i < k → k ≤ x → edgeAt ws k ≡ true
+
+-- the tables of a search in the working buffer w, by position: at a slot the states that it was reached in
+abbrev pub reachedOf : List ℕ → ℕ → ℕ
+reachedOf w j = half w 0 j
+
+-- at a node word those of them that are still to be expanded
+abbrev pub pendingOf : List ℕ → ℕ → ℕ
+pendingOf w j = half w 8192 j
+
+-- at an edge word the states that may be entered by its label
+abbrev pub maskOf : List ℕ → ℕ → ℕ
+maskOf w x = half w 8192 x
+
+-- at an edge word the slot of its target
+abbrev pub slotOf : List ℕ → ℕ → ℕ
+slotOf w x = half w 16384 x
+
+-- and the slots of the t outside targets, ascending by target, behind which the nodes stand that wait
+abbrev pub placeOf : List ℕ → ℕ → ℕ
+placeOf w k = half w 24576 k
+
+abbrev pub isReached : List ℕ → ℕ → ℕ → Bool
+isReached w j q = hasState (reachedOf w j) q
+
+abbrev pub isPending : List ℕ → List ℕ → ℕ → ℕ → Bool
+isPending ws w j q = nodeAt ws j && hasState (pendingOf w j) q
+
+-- the tables have room for the part's words, and the stack for its nodes
+pub record Roomy (ws : List ℕ) (t : ℕ) (w : List ℕ) : Type 0 where
+  pub few : length ws ≤ 4096
+  pub long : 32768 ≤ length w
+  pub places : t + tally (nodeAt ws) (length ws) ≤ 4096
+
+-- j is the slot of a target outside the part
+pub record Outer (ws w : List ℕ) (j : ℕ) : Type 0 where
+  pub below : j < length ws
+  pub edge : edgeAt ws j ≡ true
+  pub self : slotOf w j ≡ j
+
+-- the tables by which an accepted part with t outside targets is searched
+pub record Laid (ws : List ℕ) (t : ℕ) (w : List ℕ) : Type 0 where
+  pub accepted : partCheck ws ≡ 0
+  pub roomy : Roomy ws t w
+  pub below : (x : ℕ) → x < length ws → edgeAt ws x ≡ true → slotOf w x < length ws
+  pub target : (x : ℕ) → x < length ws → edgeAt ws x ≡ true → number ws (slotOf w x) ≡ number ws x
+  pub inner : (x i : ℕ) → x < length ws → edgeAt ws x ≡ true → i < length ws → nodeAt ws i ≡ true → number ws i ≡ number ws x → slotOf w x ≡ i
+  pub outer : (x : ℕ) → x < length ws → edgeAt ws x ≡ true → nodeAt ws (slotOf w x) ≡ false → Outer ws w (slotOf w x)
+  pub one : (x y : ℕ) → Outer ws w x → Outer ws w y → number ws x ≡ number ws y → x ≡ y
+  pub listed : (k : ℕ) → k < t → Outer ws w (placeOf w k)
+  pub lists : (j : ℕ) → Outer ws w j → (k : ℕ) × (k < t) × (placeOf w k ≡ j)
+  pub ascending : (k l : ℕ) → k < l → l < t → number ws (placeOf w k) < number ws (placeOf w l)
+
+-- what a search leaves as it is
+pub record Kept (ws : List ℕ) (t : ℕ) (w w′ : List ℕ) : Type 0 where
+  pub long : length w′ ≡ length w
+  pub slots : (x : ℕ) → x < 4096 → slotOf w′ x ≡ slotOf w x
+  pub masks : (x : ℕ) → x < 4096 → nodeAt ws x ≡ false → maskOf w′ x ≡ maskOf w x
+  pub places : (k : ℕ) → k < t → placeOf w′ k ≡ placeOf w k
+
+-- the nodes that wait, and where they stand
+abbrev pub waitsIn : List ℕ → List ℕ → ℕ → Bool
+waitsIn ws w j = nodeAt ws j && not (eqb (pendingOf w j) 0)
+
+abbrev pub placeIn : ℕ → List ℕ → ℕ → ℕ
+placeIn t w k = placeOf w (t + k)

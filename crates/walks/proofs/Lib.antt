@@ -1,0 +1,9 @@
+pub mod Product
+pub mod Storing
+pub mod Entering
+pub mod Walking
+pub mod Reaching
+pub mod Turning
+pub mod Seeding
+pub mod Preparing
+pub mod Finding

@@ -1,0 +1,141 @@
+-- Tables that are laid out, filled with masks and made blank are ready for searches; and what an automaton's masks and table say of its
+-- expression. Assumes nothing.
+use mathlib.Core.Path.{_≡_, refl, sym, _∙_}
+use mathlib.Core.Logic.{_⊎_, inl, inr, ⊎-elim}
+use mathlib.Core.Bool.{Bool, true, false, _&&_}
+use mathlib.Core.List.{List}
+use Prim.Native.Nat.{ℕ, _+_, _≤_, _<_}
+use native.Mathlib.Omega.{arith}
+use lib.Dec.{leb}
+use lib.ListN.{length, getD}
+use Rattle.sets.specs.States.{hasState}
+use Rattle.sets.specs.Table.{putHalf}
+use Rattle.sets.proofs.Cases.{bool-cases, eq-or-ne, clash}
+use Rattle.sets.proofs.Tests.{passed, is-true, and-iff, both, le-iff}
+use Rattle.sets.proofs.Tables.{length-put, half-same, half-apart, half-other}
+use Rattle.files.specs.Field.{labelOf}
+use Rattle.paths.specs.declared.automaton.Automaton.{Automaton}
+use Rattle.paths.specs.Expr.{Expr, count}
+use Rattle.paths.specs.Positions.{labelWord}
+use Rattle.paths.specs.Labels.{between, holds}
+use Rattle.paths.specs.Letters.{reads}
+use Rattle.paths.specs.Automaton.{Automates}
+use Rattle.slots.specs.Slots.{nodeAt, edgeAt, reachedOf, pendingOf, maskOf, Laid, Kept}
+use Rattle.walks.specs.Search.{Blank, Follow, Masked}
+use Rattle.walks.specs.Prepare.{Unmoved, Masking, Filled, AllFilled, Prepared, Tables}
+use Rattle.walks.proofs.Storing.{laid-same, laid-kept}
+use Rattle.slots.proofs.Places.{edge-no-node}
+use Rattle.walks.proofs.Seeding.{begun-blank}
+
+-- ---- a position is filled
+
+module _ (ws : List ℕ) (reading : ℕ → ℕ → Bool) (w : List ℕ) (x : ℕ) (small : x < 4096) (long : 32768 ≤ length w) where
+  abbrev stored : ℕ → List ℕ
+  stored m = putHalf (putHalf w 0 x 0) 8192 x m
+
+  unmoved : (m : ℕ) → Unmoved w (stored m)
+  unmoved m =
+      record {
+        long = length-put (putHalf w 0 x 0) 8192 x m ∙ length-put w 0 x 0;
+        slots = λ y l. half-apart (putHalf w 0 x 0) 8192 x m 16384 y (inr (omega arith)) ∙ half-apart w 0 x 0 16384 y (inr (omega arith));
+        places = λ k. half-apart (putHalf w 0 x 0) 8192 x m 24576 k (inr (omega arith)) ∙ half-apart w 0 x 0 24576 k (inr (omega arith));
+      }
+
+  here : (m : ℕ) → (reachedOf (stored m) x ≡ 0) × (pendingOf (stored m) x ≡ m)
+  here m = (
+    half-apart (putHalf w 0 x 0) 8192 x m 0 x (inl (omega arith)) ∙ half-same w 0 x 0 (omega arith),
+    half-same (putHalf w 0 x 0) 8192 x m (omega (arith, length-put w 0 x 0)),
+  )
+
+  others : (m j : ℕ) → j < 4096 → (j ≡ x → ⊥) → (reachedOf (stored m) j ≡ reachedOf w j) × (pendingOf (stored m) j ≡ pendingOf w j)
+  others m j l d = (
+    half-apart (putHalf w 0 x 0) 8192 x m 0 j (inl (omega arith)) ∙ half-other w 0 x 0 j d,
+    half-other (putHalf w 0 x 0) 8192 x m j d ∙ half-apart w 0 x 0 8192 j (inr (omega arith)),
+  )
+
+  pub fill-edge : (m : ℕ) → edgeAt ws x ≡ true → ((p : ℕ) → hasState m p ≡ reading (labelOf (getD ws x 0)) p) → Filled ws reading w (stored m) x
+  fill-edge m e h =
+      record {
+        unmoved = unmoved m;
+        here = record { reached = here m .0; idle = λ f. absurd (clash e f); mask = λ t p. rw (here m .1) (h p) };
+        others = others m;
+      }
+
+  pub fill-other : edgeAt ws x ≡ false → Filled ws reading w (stored 0) x
+  fill-other f =
+      record {
+        unmoved = unmoved 0;
+        here = record { reached = here 0 .0; idle = λ z. here 0 .1; mask = λ t. absurd (clash t f) };
+        others = others 0;
+      }
+
+-- ---- a position after the other
+
+pub record Filling (ws : List ℕ) (reading : ℕ → ℕ → Bool) (w w′ : List ℕ) (x : ℕ) : Type 0 where
+  pub unmoved : Unmoved w w′
+  pub done : (y : ℕ) → y < x → Masking ws reading w′ y
+
+pub fill-none : (ws : List ℕ) (reading : ℕ → ℕ → Bool) (w : List ℕ) → Filling ws reading w w 0
+fill-none ws reading w =
+    record { unmoved = record { long = refl; slots = λ x l. refl; places = λ k. refl }; done = λ y l. absurd (omega arith) }
+
+pub fill-more : {ws : List ℕ} {reading : ℕ → ℕ → Bool} {w w′ w″ : List ℕ} {x : ℕ} → x < 4096 → Filling ws reading w w′ x → Filled ws reading w′ w″ x → Filling ws reading w w″ (x + 1)
+fill-more {ws} {reading} {w} {w′} {w″} {x} b f n =
+    record {
+      unmoved =
+          record {
+            long = n .unmoved .long ∙ f .unmoved .long;
+            slots = λ y l. n .unmoved .slots y l ∙ f .unmoved .slots y l;
+            places = λ k. n .unmoved .places k ∙ f .unmoved .places k;
+          };
+      done = λ y l.
+          ⊎-elim (λ (e : y ≡ x). rw e (n .here))
+          (λ d.
+          let (r, p) = n .others y (omega arith) d in
+          let m = f .done y (omega arith) in
+          record { reached = r ∙ m .reached; idle = λ e. p ∙ m .idle e; mask = λ e q. rw p (m .mask e q) })
+          (eq-or-ne y x);
+    }
+
+pub fill-all : {ws : List ℕ} {reading : ℕ → ℕ → Bool} {w w′ : List ℕ} {x : ℕ} → length ws ≤ x → Filling ws reading w w′ x → AllFilled ws reading w w′
+fill-all h f = record { unmoved = f .unmoved; all = λ y l. f .done y (omega arith) }
+
+-- ---- the tables are ready
+
+node-no-edge : (ws : List ℕ) (x : ℕ) → nodeAt ws x ≡ true → edgeAt ws x ≡ false
+node-no-edge ws x n = ⊎-elim (λ e. absurd (clash n (edge-no-node ws x e))) (λ e. e) (bool-cases (edgeAt ws x))
+
+pub prepared : (ws : List ℕ) (reading : ℕ → ℕ → Bool) (w w′ : List ℕ) (c : ℕ) → Laid ws c w → AllFilled ws reading w w′ → Prepared ws reading c w′
+prepared ws reading w w′ c laid₀ f =
+    let blank : Blank ws w′ = record { reached = λ j l. f .all j l .reached; pending = λ j l n. f .all j l .idle (node-no-edge ws j n) } in
+    let laid = laid-same w′ (f .unmoved .long) (f .unmoved .slots) (λ k l. f .unmoved .places k) laid₀ in
+    record { begun = begun-blank ws c w′ laid blank; blank = blank; masks = λ x p l e. f .all x l .mask e p }
+
+-- ---- an automaton's masks and its table, as its expression has them
+
+pub masked : (ws : List ℕ) (a : Automaton) (e : Expr) (t : ℕ) (w : List ℕ) → Automates a e → Prepared ws (reads (a .letters)) t w → Masked ws e w
+masked ws a e t w m r x p l h =
+    let z : hasState (maskOf w x) p ≡ (between 1 (count e) p && holds (labelWord e p) (labelOf (getD ws x 0))) =
+    r .masks x p l h ∙ m .reading (labelOf (getD ws x 0)) p in (
+      λ t.
+          let (b, k) = and-iff (between 1 (count e) p) (holds (labelWord e p) (labelOf (getD ws x 0))) .0 (passed (sym z ∙ t)) in
+          let (lo, hi) = and-iff (leb 1 p) (leb p (count e)) .0 b in
+          (le-iff 1 p .0 lo, le-iff p (count e) .0 hi, k),
+      λ (lo, hi, k).
+          z ∙ is-true (between 1 (count e) p && holds (labelWord e p) (labelOf (getD ws x 0)))
+          (both (between 1 (count e) p) (holds (labelWord e p) (labelOf (getD ws x 0))) (both (leb 1 p) (leb p (count e)) (le-iff 1 p .1 lo) (le-iff p (count e) .1 hi)) k),
+    )
+
+pub follows : (a : Automaton) (e : Expr) → Automates a e → Follow e (a .follow)
+follows a e m = record { small = m .small; row = λ q p l. m .follows q p }
+
+pub tables : (ws : List ℕ) (a : Automaton) (e : Expr) (t : ℕ) (w : List ℕ) → Automates a e → Prepared ws (reads (a .letters)) t w → Tables ws e t w
+tables ws a e t w m r = record { laid = r .begun .laid; masked = masked ws a e t w m r }
+
+-- which a search, and a reset, leave as they are
+pub tables-kept : {ws : List ℕ} {e : Expr} {t : ℕ} {w w′ : List ℕ} → Kept ws t w w′ → Tables ws e t w → Tables ws e t w′
+tables-kept {ws} k r =
+    record {
+      laid = laid-kept k (r .laid);
+      masked = λ x p l h. rw (k .masks x (omega (arith, r .laid .roomy .few)) (edge-no-node ws x h)) (r .masked x p l h);
+    }

@@ -1,0 +1,156 @@
+-- Where a search begins: tables with no marks, and a node that is marked. Assumes nothing.
+use mathlib.Core.Path.{_≡_, refl, sym, ap, _∙_}
+use mathlib.Core.Logic.{_⊎_, inl, inr, ⊎-elim}
+use mathlib.Core.Bool.{Bool, true, false, not, _&&_, _||_}
+use mathlib.Core.List.{List, [], _∷_}
+use Prim.Native.Nat.{ℕ, _+_, _≤_, _<_}
+use native.Mathlib.Omega.{arith}
+use borrow.Author.Tests.{eq-eqb, eqb-true}
+use lib.Dec.{eqb}
+use lib.ListN.{length}
+use Rattle.sets.specs.Sets.{Mem, here, there, Same}
+use Rattle.sets.specs.States.{hasState}
+use Rattle.sets.specs.Table.{putHalf}
+use Rattle.sets.proofs.Cases.{bool-cases, eq-or-ne, or-elim, or-right, and-left, and-right, and-intro, clash}
+use Rattle.sets.proofs.StateSets.{has-empty}
+use Rattle.sets.proofs.Stacks.{stacked-empty}
+use Rattle.sets.proofs.Tables.{length-put, half-same, half-apart, half-other}
+use Rattle.files.specs.Field.{pair, pairNode, pairState}
+use Rattle.files.proofs.Fields.{pair-node, pair-state}
+use Rattle.slots.specs.Slots.{nodeAt, number, reachedOf, pendingOf, isReached, Laid, Kept, waitsIn, placeIn}
+use Rattle.walks.specs.Search.{Entered, Waiting, Begun, Marks, Blank, Forgot, Fresh, Seeded}
+use Rattle.walks.proofs.Storing.{kept-refl, kept-trans, kept-reached, kept-pending, laid-kept}
+use Rattle.walks.proofs.Entering.{waits-no}
+use Rattle.slots.proofs.Places.{node-below}
+
+-- ---- nothing is marked
+
+pub marks-none : (ws w : List ℕ) → Blank ws w → Marks ws w []
+marks-none ws w b =
+    record {
+      sound = λ j q l s h. absurd (clash h (rw (b .reached j l) (has-empty q)));
+      complete = λ c m. elim m [ ];
+    }
+
+-- the same pairs in another order
+pub marks-same : {ws w cs ds : List ℕ} → Same cs ds → Marks ws w cs → Marks ws w ds
+marks-same h m =
+    record {
+      sound = λ j q l s r. let k = m .sound j q l s r in (k .0, h .0 _ (k .1));
+      complete = λ c k. m .complete c (h .1 c k);
+    }
+
+pub begun-blank : (ws : List ℕ) (t : ℕ) (w : List ℕ) → Laid ws t w → Blank ws w → Begun ws t w 0
+begun-blank ws t w laid b =
+    record {
+      laid = laid;
+      ready = λ j q l n. rw (b .pending j l n, b .reached j l);
+      stack = stacked-empty (length ws) (waitsIn ws w) (placeIn t w) (idle laid b);
+    }
+  where
+    idle : Laid ws t w → Blank ws w → (j : ℕ) → j < length ws → waitsIn ws w j ≡ false
+    idle laid b j l =
+        ⊎-elim (λ n. waits-no (nodeAt ws j) (pendingOf w j) (b .pending j l n)) (λ n. rw n) (bool-cases (nodeAt ws j))
+
+-- ---- the marks are taken away, a position after the other
+
+module _ (ws w : List ℕ) (i : ℕ) (hi : i < length ws) (few : length ws ≤ 4096) (long : 32768 ≤ length w) where
+  abbrev off : List ℕ
+  off = putHalf w 0 i 0
+
+  pub forgot-edge : nodeAt ws i ≡ false → Forgot ws w off i
+  forgot-edge f =
+      record {
+        kept = λ t. kept-reached ws t w i 0 (omega arith);
+        reached = half-same w 0 i 0 (omega arith);
+        pending = λ n. absurd (clash n f);
+        others = λ j l d. (half-other w 0 i 0 j d, half-apart w 0 i 0 8192 j (inr (omega arith)));
+      }
+
+  pub forgot-node : nodeAt ws i ≡ true → Forgot ws w (putHalf off 8192 i 0) i
+  forgot-node n =
+      record {
+        kept = λ t. kept-trans (kept-reached ws t w i 0 (omega arith)) (kept-pending ws t off i 0 (omega arith) n);
+        reached = half-apart off 8192 i 0 0 i (inl (omega arith)) ∙ half-same w 0 i 0 (omega arith);
+        pending = λ m. half-same off 8192 i 0 (omega (arith, length-put w 0 i 0));
+        others = λ j l d. (
+          half-apart off 8192 i 0 0 j (inl (omega arith)) ∙ half-other w 0 i 0 j d,
+          half-other off 8192 i 0 j d ∙ half-apart w 0 i 0 8192 j (inr (omega arith)),
+        );
+      }
+
+-- the positions below i have no marks
+pub record Forgetting (ws : List ℕ) (t : ℕ) (w w′ : List ℕ) (i : ℕ) : Type 0 where
+  pub kept : Kept ws t w w′
+  pub done : (j : ℕ) → j < i → (reachedOf w′ j ≡ 0) × (nodeAt ws j ≡ true → pendingOf w′ j ≡ 0)
+
+pub forget-none : (ws : List ℕ) (t : ℕ) (w : List ℕ) → Forgetting ws t w w 0
+forget-none ws t w = record { kept = kept-refl ws t w; done = λ j l. absurd (omega arith) }
+
+pub forget-more : {ws : List ℕ} {t : ℕ} {w w′ w″ : List ℕ} {i : ℕ} → i < 4096 → Forgetting ws t w w′ i → Forgot ws w′ w″ i → Forgetting ws t w w″ (i + 1)
+forget-more {ws} {t} {w} {w′} {w″} {i} b f x =
+    record {
+      kept = kept-trans (f .kept) (x .kept t);
+      done = λ j l.
+          ⊎-elim (λ (e : j ≡ i). rw e (x .reached, x .pending))
+          (λ d. let o = x .others j (omega arith) d in let r = f .done j (omega arith) in (o .0 ∙ r .0, λ n. o .1 ∙ r .1 n))
+          (eq-or-ne j i);
+    }
+
+pub forget-all : {ws : List ℕ} {t : ℕ} {w w′ : List ℕ} {i : ℕ} → length ws ≤ i → Laid ws t w → Forgetting ws t w w′ i → Fresh ws t w w′
+forget-all {ws} {t} {w} {w′} {i} h laid f =
+    let b : Blank ws w′ = record { reached = λ j l. f .done j (omega arith) .0; pending = λ j l n. f .done j (omega arith) .1 n } in
+    record { kept = f .kept; blank = b; begun = begun-blank ws t w′ (laid-kept (f .kept) laid) b }
+
+-- ---- a node is marked
+
+fresh-is : (a a′ b b′ : Bool) → (a ≡ true → a′ ≡ true) → b ≡ a → b′ ≡ (b || (a′ && not a)) → b′ ≡ a′
+fresh-is true a′ b b′ h e f = f ∙ rw (e, h refl)
+fresh-is false true b b′ h e f = f ∙ rw e
+fresh-is false false b b′ h e f = f ∙ rw e
+
+module _ (ws : List ℕ) (t : ℕ) (w w′ : List ℕ) (i q m top r : ℕ) (b : Begun ws t w top) (node : nodeAt ws i ≡ true) (small : q < 16)
+    (has : (p : ℕ) → hasState m p ≡ (hasState 0 p || eqb p q)) (x : Entered ws t w w′ i m) (st : Waiting ws t w′ r) where
+  below : i < length ws
+  below = node-below ws i node
+
+  few : length ws ≤ 4096
+  few = b .laid .roomy .few
+
+  one : (p : ℕ) → hasState m p ≡ eqb p q
+  one p = has p ∙ rw (has-empty p)
+
+  ready : (j p : ℕ) → j < length ws → nodeAt ws j ≡ true → hasState (pendingOf w′ j) p ≡ isReached w′ j p
+  ready j p l n =
+      fresh-is (isReached w j p) (isReached w′ j p) (hasState (pendingOf w j) p) (hasState (pendingOf w′ j) p) (x .grown .more j p (omega (arith, few))) (b .ready j p l n)
+      (rw n at (x .grown .fresh j p (omega (arith, few))))
+
+  marks : (cs : List ℕ) → Marks ws w cs → Marks ws w′ (pair (number ws i) q ∷ cs)
+  marks cs k =
+      record {
+        sound = λ j p l s h.
+            ⊎-elim (λ a. let y = k .sound j p l s a in (y .0, there (y .1)))
+            (λ a.
+            let e : j ≡ i = eqb-true j i (and-left (eqb j i) (hasState m p) a) in
+            let d : p ≡ q = eqb-true p q (sym (one p) ∙ and-right (eqb j i) (hasState m p) a) in
+            rw (e, d) (node, here refl))
+            (or-elim (isReached w j p) (eqb j i && hasState m p) (sym (x .reached j p (omega (arith, few))) ∙ h));
+        complete = complete cs k;
+      }
+    where
+      complete : (cs : List ℕ) → Marks ws w cs → (c : ℕ) → Mem c (pair (number ws i) q ∷ cs)
+          → (j : ℕ) × (j < length ws) × (nodeAt ws j ≡ true) × (number ws j ≡ pairNode c) × (isReached w′ j (pairState c) ≡ true)
+      complete cs k c (here e) = (
+        i,
+        below,
+        node,
+        sym (ap pairNode e ∙ pair-node (number ws i) q small),
+        rw (e, pair-state (number ws i) q small) (x .reached i q (omega (arith, few, below))
+            ∙ or-right (isReached w i q) (eqb i i && hasState m q) (and-intro (eqb i i) (hasState m q) (eq-eqb i i refl) (one q ∙ eq-eqb q q refl))),
+      )
+      complete cs k c (there y) =
+          let (j, l, n, e, h) = k .complete c y in
+          (j, l, n, e, x .grown .more j (pairState c) (omega (arith, few)) h)
+
+  pub seeded : Seeded ws t w w′ i q r
+  seeded = record { kept = x .grown .kept; begun = record { laid = laid-kept (x .grown .kept) (b .laid); ready = ready; stack = st }; marks = marks }

@@ -1,0 +1,3 @@
+pub mod Product
+pub mod Search
+pub mod Prepare

@@ -1,0 +1,116 @@
+-- What the functions of a search do to its tables, and what a search finds.
+use mathlib.Core.Path.{_≡_}
+use mathlib.Core.Logic.{_⊎_, _↔_}
+use mathlib.Core.Bool.{true, not, _&&_, _||_}
+use mathlib.Core.List.{List, _∷_}
+use Prim.Native.Nat.{ℕ, _≤_, _<_}
+use lib.Dec.{T, eqb}
+use lib.ListN.{length, getD, drop}
+use Rattle.sets.specs.Sets.{Mem}
+use Rattle.sets.specs.Reach.{Reach}
+use Rattle.sets.specs.States.{hasState}
+use Rattle.sets.specs.Stack.{Stacked}
+use Rattle.files.specs.Field.{labelOf, pair, pairNode, pairState}
+use Rattle.paths.specs.Expr.{Expr, count}
+use Rattle.paths.specs.Positions.{next, labelWord}
+use Rattle.paths.specs.Labels.{holds}
+use Rattle.walks.specs.Product.{stepIn}
+use Rattle.slots.specs.Slots.{nodeAt, edgeAt, number, Behind, reachedOf, pendingOf, maskOf, slotOf, isReached, isPending, Laid, Kept, waitsIn, placeIn}
+
+-- ---- inside a search
+
+-- from the tables w to w′ only pairs were gained, and each that a node gained is pending
+pub record Grown (ws : List ℕ) (t : ℕ) (w w′ : List ℕ) : Type 0 where
+  pub kept : Kept ws t w w′
+  pub more : (j p : ℕ) → j < 4096 → isReached w j p ≡ true → isReached w′ j p ≡ true
+  pub fresh : (j p : ℕ) → j < 4096 → isPending ws w′ j p ≡ (isPending ws w j p || (nodeAt ws j && (isReached w′ j p && not (isReached w j p))))
+
+-- slot s was entered in the states of m
+pub record Entered (ws : List ℕ) (t : ℕ) (w w′ : List ℕ) (s m : ℕ) : Type 0 where
+  pub grown : Grown ws t w w′
+  pub reached : (j p : ℕ) → j < 4096 → isReached w′ j p ≡ (isReached w j p || (eqb j s && hasState m p))
+
+-- the node at s waits in the states of m too
+pub record Waits (ws : List ℕ) (t : ℕ) (w w′ : List ℕ) (s m : ℕ) : Type 0 where
+  pub kept : Kept ws t w w′
+  pub reached : (j : ℕ) → j < 4096 → reachedOf w′ j ≡ reachedOf w j
+  pub pending : (j p : ℕ) → j < 4096 → isPending ws w′ j p ≡ (isPending ws w j p || (eqb j s && hasState m p))
+
+-- an edge word x of the node word at i, before position `to`, leads to slot j and lets state p be entered
+pub record Edge (ws w : List ℕ) (i to j p x : ℕ) : Type 0 where
+  pub behind : Behind ws i x
+  pub before : x < to
+  pub target : slotOf w x ≡ j
+  pub mask : hasState (maskOf w x) p ≡ true
+
+-- an edge word of the node word at i leads to slot j in a state p of u
+abbrev pub Hit : List ℕ → List ℕ → ℕ → ℕ → ℕ → ℕ → ℕ → Type 0
+Hit ws w i u to j p = ((x : ℕ) × Edge ws w i to j p x) × (hasState u p ≡ true)
+
+-- the pairs of Hit were entered, and no others
+pub record Walked (ws : List ℕ) (t : ℕ) (Hit : ℕ → ℕ → Type 0) (w w′ : List ℕ) : Type 0 where
+  pub grown : Grown ws t w w′
+  pub only : (j p : ℕ) → j < 4096 → isReached w′ j p ≡ true → (isReached w j p ≡ true) ⊎ Hit j p
+  pub all : (j p : ℕ) → j < 4096 → Hit j p → isReached w′ j p ≡ true
+
+-- `top` nodes wait, and stand on the stack
+abbrev pub Waiting : List ℕ → ℕ → List ℕ → ℕ → Type 0
+Waiting ws t w top = Stacked (length ws) (waitsIn ws w) (placeIn t w) top
+
+-- ---- for callers
+
+-- the tables where a search may begin: what is reached is at nodes, and all of it is pending
+pub record Begun (ws : List ℕ) (t : ℕ) (w : List ℕ) (top : ℕ) : Type 0 where
+  pub laid : Laid ws t w
+  pub ready : (j q : ℕ) → j < length ws → nodeAt ws j ≡ true → hasState (pendingOf w j) q ≡ isReached w j q
+  pub stack : Waiting ws t w top
+
+-- the pairs that are marked are those of cs
+pub record Marks (ws w cs : List ℕ) : Type 0 where
+  pub sound : (j q : ℕ) → j < length ws → q < 16 → isReached w j q ≡ true → (nodeAt ws j ≡ true) × Mem (pair (number ws j) q) cs
+  pub complete : (c : ℕ) → Mem c cs → (j : ℕ) × (j < length ws) × (nodeAt ws j ≡ true) × (number ws j ≡ pairNode c) × (isReached w j (pairState c) ≡ true)
+
+-- nothing is marked
+pub record Blank (ws w : List ℕ) : Type 0 where
+  pub reached : (j : ℕ) → j < length ws → reachedOf w j ≡ 0
+  pub pending : (j : ℕ) → j < length ws → nodeAt ws j ≡ true → pendingOf w j ≡ 0
+
+-- the marks at position i were taken away
+pub record Forgot (ws w w′ : List ℕ) (i : ℕ) : Type 0 where
+  pub kept : (t : ℕ) → Kept ws t w w′
+  pub reached : reachedOf w′ i ≡ 0
+  pub pending : nodeAt ws i ≡ true → pendingOf w′ i ≡ 0
+  pub others : (j : ℕ) → j < 4096 → (j ≡ i → ⊥) → (reachedOf w′ j ≡ reachedOf w j) × (pendingOf w′ j ≡ pendingOf w j)
+
+-- tables in which nothing is marked, of those that were laid out
+pub record Fresh (ws : List ℕ) (t : ℕ) (w w′ : List ℕ) : Type 0 where
+  pub kept : Kept ws t w w′
+  pub blank : Blank ws w′
+  pub begun : Begun ws t w′ 0
+
+-- the node at i was marked in state q
+pub record Seeded (ws : List ℕ) (t : ℕ) (w w′ : List ℕ) (i q top : ℕ) : Type 0 where
+  pub kept : Kept ws t w w′
+  pub begun : Begun ws t w′ top
+  pub marks : (cs : List ℕ) → Marks ws w cs → Marks ws w′ (pair (number ws i) q ∷ cs)
+
+-- row q of the table has what may come next in state q of the expression, which has at most 15 letters
+pub record Follow (e : Expr) (follow : List ℕ) : Type 0 where
+  pub small : count e ≤ 15
+  pub row : (q p : ℕ) → q < 16 → hasState (getD follow q 0) p ≡ next e q p
+
+-- the mask of an edge word has the positions whose label word holds its label
+abbrev pub Masked : List ℕ → Expr → List ℕ → Type 0
+Masked ws e w =
+    (x p : ℕ) → x < length ws → edgeAt ws x ≡ true
+    → (hasState (maskOf w x) p ≡ true) ↔ ((1 ≤ p) × (p ≤ count e) × T (holds (labelWord e p) (labelOf (getD ws x 0))))
+
+-- j is the slot of a node or of an outside target
+abbrev pub Slot : List ℕ → List ℕ → ℕ → Type 0
+Slot ws w j = (j < length ws) × ((nodeAt ws j ≡ true) ⊎ (slotOf w j ≡ j) × (edgeAt ws j ≡ true))
+
+-- a slot is reached in just the states that a walk inside the part leads to from a marked pair
+pub record Searched (ws : List ℕ) (t : ℕ) (follow w w′ : List ℕ) : Type 0 where
+  pub kept : Kept ws t w w′
+  pub exact : (e : Expr) (cs : List ℕ) → Follow e follow → Masked ws e w → Marks ws w cs → (j q : ℕ) → Slot ws w j → q < 16
+      → (isReached w′ j q ≡ true) ↔ Reach (stepIn (drop 1 ws) e) cs (pair (number ws j) q)

@@ -1,0 +1,4 @@
+// The search of a part, together with the automaton of a path.
+pub mod found;
+pub mod prepare;
+pub mod search;
