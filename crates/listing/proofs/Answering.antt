@@ -2,8 +2,8 @@
 use mathlib.Core.Path.{_≡_, refl, sym, _∙_, ap, subst}
 use mathlib.Core.Logic.{_↔_, inl, Iff·rfl}
 use mathlib.Core.Bool.{Bool, true, false, not}
-use mathlib.Core.List.{List, [], _∷_, _++_, map, map-map, append-nil, append-assoc, Memᴰ·map, Memᴰ·of-map}
-use Prim.Native.Nat.{ℕ, zero, suc, _+_, _%_, _^_, _≤_, _<_}
+use mathlib.Core.List.{List, [], _∷_, map, map-map, Memᴰ·map, Memᴰ·of-map}
+use Prim.Native.Nat.{ℕ, _+_, _%_, _^_, _<_}
 use native.Mathlib.Omega.{arith}
 use native.Mathlib.Nat.{zero-add}
 use native.Mathlib.Numerals.{add-one}
@@ -16,7 +16,7 @@ use Rattle.sets.specs.Sets.{Mem, here, there, Ascending, Lists}
 use Rattle.sets.proofs.Tests.{passed, is-true}
 use Rattle.sets.proofs.Cases.{and-left, and-right, and-intro, clash}
 use Rattle.sets.specs.Reach.{Reach}
-use Rattle.sets.specs.States.{hasState, keep, members}
+use Rattle.sets.specs.States.{hasState, members}
 use Rattle.sets.proofs.Members.{members-in, in-members}
 use Rattle.sets.proofs.Sets.{lists-unique}
 use Rattle.sets.proofs.Filter.{map-append}
@@ -24,27 +24,19 @@ use Rattle.sets.proofs.StateSets.{has-and, has-empty, lowest-is}
 use Rattle.files.specs.Field.{answerWord, pair}
 use Rattle.files.specs.Part.{nodes}
 use Rattle.files.proofs.Fields.{node-below}
-use Rattle.output.specs.Writer.{Written}
-use Rattle.paths.specs.Expr.{Expr, count}
-use Rattle.paths.specs.Positions.{accepts}
+use Rattle.output.specs.Writer.{Writes}
+use Rattle.output.proofs.Writing.{Adding, adding-none, adding-more, writes-none}
+use Rattle.output.proofs.Ranges.{members-more}
+use Rattle.output.proofs.Ranges.{members-ascending}
+use Rattle.expressions.specs.Expr.{Expr, count}
+use Rattle.expressions.specs.Positions.{accepts}
 use Rattle.walks.specs.Product.{stepIn, answers}
 use Rattle.slots.specs.Slots.{nodeAt, number, reachedOf, isReached, Laid}
 use Rattle.walks.specs.Search.{Follow, Masked, Marks, Searched}
 use Rattle.walks.proofs.Product.{accepts-small, answers-lists}
+use Rattle.walks.proofs.Seeding.{marks-sought}
 use Rattle.slots.proofs.Places.{node-in, in-node, node-below as node-within, nodes-rise, nodes-same, rising}
 use Rattle.listing.specs.Listing.{lands, answerHere, answerWords}
-
--- one number more
-pub members-more : (p : ℕ → Bool) (at d : ℕ) → members p at (suc d) ≡ members p at d ++ keep (p (at + d)) (at + d) []
-unfolding members
-members-more p at zero = let e : at + 0 ≡ at = omega arith in rw e
-members-more p at (suc d) =
-    let e : at + suc d ≡ suc at + d = omega arith in
-    ap (keep (p at) at) (members-more p (suc at) d) ∙ keep-append (p at) at (members p (suc at) d) _ ∙ rw e
-  where
-    keep-append : (b : Bool) (x : ℕ) (xs ys : List ℕ) → keep b x (xs ++ ys) ≡ keep b x xs ++ ys
-    keep-append true x xs ys = refl
-    keep-append false x xs ys = refl
 
 -- a node's number is below 2 ^ 16, whatever the word
 pub answer-is : (ws : List ℕ) (i : ℕ) {x : ℕ} → x ≡ number ws i → 0xe0000000 + x % 65536 ≡ answerWord (number ws i)
@@ -53,50 +45,31 @@ answer-is ws i e = omega (arith, node-below (getD ws i 0))
 
 module _ {limit n : ℕ} (part w : List ℕ) (accepts i : ℕ) where
   -- an answer was written, or there is none
-  pub answer-some : (ws : List ℕ) {b : Bool} {v r count : ℕ} {out out′ : List ℕ} → b ≡ true → b ≡ lands part w accepts i → v ≡ answerWord (number part i)
-      → ((us : List ℕ) → Written limit n us out count → Written limit n (us ++ v ∷ []) out′ r) → Written limit n ws out count → Written limit n (ws ++ answerHere part w accepts i) out′ r
-  answer-some ws h e f g r = rw (← e, h, ← f) (g ws r)
+  pub answer-some : {b : Bool} {v r count : ℕ} {out out′ : List ℕ} → b ≡ true → b ≡ lands part w accepts i → v ≡ answerWord (number part i)
+      → Writes limit n out count out′ r (v ∷ []) → Writes limit n out count out′ r (answerHere part w accepts i)
+  answer-some h e f g = rw (← e, h, ← f) g
 
-  pub answer-none : (ws : List ℕ) {b : Bool} {count : ℕ} {out : List ℕ} → b ≡ false → b ≡ lands part w accepts i → Written limit n ws out count → Written limit n (ws ++ answerHere part w accepts i) out count
-  answer-none ws h e r = rw (← e, h, append-nil) r
+  pub answer-none : {b : Bool} {count : ℕ} {out : List ℕ} → b ≡ false → b ≡ lands part w accepts i → Writes limit n out count out count (answerHere part w accepts i)
+  answer-none {count = count} {out = out} h e = rw (← e, h) (writes-none limit n out count)
 
--- the answers of the first i positions are written
-pub record Listed (limit n : ℕ) (part w : List ℕ) (accepts : ℕ) (out₀ : List ℕ) (start : ℕ) (out : List ℕ) (count i : ℕ) : Type 0 where
-  pub written : (ws : List ℕ) → Written limit n ws out₀ start → Written limit n (ws ++ answerWords part w accepts i) out count
-  pub same : length out ≡ n
-
-pub listed-none : (limit : ℕ) (part w : List ℕ) (accepts : ℕ) (out : List ℕ) (start : ℕ) → Listed limit (length out) part w accepts out start out start 0
+-- no answers yet, and those of one position more
+pub answers-none : (limit : ℕ) (part w : List ℕ) (accepts : ℕ) (out : List ℕ) (start : ℕ) → Adding limit out start out start (answerWords part w accepts 0)
 unfolding members
-listed-none limit part w accepts out start = record { written = λ ws r. rw append-nil r; same = refl }
+answers-none limit part w accepts out start = adding-none limit out start
 
-pub listed-more : {limit n : ℕ} {part w : List ℕ} {accepts : ℕ} {out₀ : List ℕ} {start : ℕ} {out out′ : List ℕ} {count r i : ℕ}
-    → Listed limit n part w accepts out₀ start out count i → length out′ ≡ length out
-    → ((ws : List ℕ) → Written limit (length out) ws out count
-    → Written limit (length out) (ws ++ answerHere part w accepts i) out′ r)
-    → Listed limit n part w accepts out₀ start out′ r (i + 1)
-listed-more {limit} {n} {part} {w} {accepts} {out₀} {start} {out} {out′} {count} {r} {i} l e f = record {
-  written = λ ws s.
-      let g : Written limit n ((ws ++ answerWords part w accepts i) ++ answerHere part w accepts i) out′ r =
-      rw (l .same) at (f (ws ++ answerWords part w accepts i) (rw (l .same) (l .written ws s))) in
-      rw (add-one, members-more (lands part w accepts) 0 i, zero-add i, map-append (λ j. answerWord (number part j)) (members (lands part w accepts) 0 i), ← append-assoc) g;
-  same = e ∙ l .same;
-}
+pub answers-more : (part w : List ℕ) (accepts i : ℕ) {limit : ℕ} {out₀ : List ℕ} {start : ℕ} {out out′ : List ℕ} {count r : ℕ}
+    → Adding limit out₀ start out count (answerWords part w accepts i) → length out′ ≡ length out
+    → Writes limit (length out) out count out′ r (answerHere part w accepts i) → Adding limit out₀ start out′ r (answerWords part w accepts (i + 1))
+answers-more part w accepts i p same f =
+    rw (add-one, members-more (lands part w accepts) 0 i, zero-add i, map-append (λ j. answerWord (number part j)) (members (lands part w accepts) 0 i))
+    (adding-more (answerHere part w accepts i) p same f)
 
-pub listed-all : {limit n : ℕ} {part w : List ℕ} {accepts : ℕ} {out₀ : List ℕ} {start : ℕ} {out : List ℕ} {count i : ℕ}
-    → i ≡ length part → Listed limit n part w accepts out₀ start out count i
-    → (ws : List ℕ) → Written limit n ws out₀ start → Written limit n (ws ++ answerWords part w accepts (length part)) out count
-listed-all e l ws r = rw (← e) (l .written ws r)
+pub answers-all : (part w : List ℕ) (accepts : ℕ) {limit : ℕ} {out₀ : List ℕ} {start : ℕ} {out : List ℕ} {count i : ℕ}
+    → i ≡ length part → Adding limit out₀ start out count (answerWords part w accepts i)
+    → Writes limit (length out₀) out₀ start out count (answerWords part w accepts (length part))
+answers-all part w accepts e p = rw (← e) (p .written)
 
 -- ---- what the words are
-
-pub members-ascending : (p : ℕ → Bool) (at d : ℕ) → Ascending (members p at d)
-unfolding members
-members-ascending p at zero = tt
-members-ascending p at (suc d) = go (p at) (members-ascending p (suc at) d)
-  where
-    go : (b : Bool) → Ascending (members p (suc at) d) → Ascending (keep b at (members p (suc at) d))
-    go true a = (λ y m. in-members p (suc at) d y m .0, a)
-    go false a = a
 
 pub number-below : (ws : List ℕ) (i : ℕ) → number ws i < 2 ^ 16
 unfolding number
@@ -137,7 +110,7 @@ module _ (ws : List ℕ) (t : ℕ) (follow w w′ : List ℕ) (s : Searched ws t
       both = bitAnd (reachedOf w′ i) accept
 
       reach : (q : ℕ) → q < 16 → (isReached w′ i q ≡ true) ↔ Reach (stepIn (drop 1 ws) e) cs (pair (number ws i) q)
-      reach q = s .exact e cs f masked marks i q (node-within ws i n, inl n)
+      reach q = s .exact e cs f masked (marks-sought ws e w cs marks) i q (node-within ws i n, inl n)
 
       to : (both ≡ 0 → ⊥) → Hit (number ws i)
       to h =

@@ -1,11 +1,10 @@
 // The answer words of what a search reached, in the part's order.
 ghost use mathlib.Core.Path.{_≡_};
-ghost use mathlib.Core.List.{List, _++_};
-ghost use Prim.Native.Nat.{ℕ, _*_, _<_, _≤_};
+ghost use Prim.Native.Nat.{_*_, _<_, _≤_};
 ghost use lib.ListN.{length};
 ghost use Rattle.files.specs.Word.{words};
 ghost use Rattle.files.specs.Field.{answerWord};
-ghost use Rattle.output.specs.Writer.{Written};
+ghost use Rattle.output.specs.Writer.{Writes};
 ghost use Rattle.slots.specs.Slots.{number};
 ghost use Rattle.listing.specs.Listing.{lands, answerHere, answerWords};
 use crate::tables::states_at;
@@ -37,10 +36,8 @@ fn write_answer(
     count: usize,
 ) -> usize
     requires { ⌜ (i < 4096) × (32768 ≤ length (now work)) × (limit ≤ 8192) × (4 * limit ≤ length (now out)) ⌝ }
-    ensures { λ r. ⌜ ((ws : List ℕ) → Written limit (length (now (out .entry))) ws (now (out .entry)) count
-        → Written limit (length (now (out .entry)))
-        (ws ++ answerHere (words (now (part .entry))) (now (work .entry)) accepts i)
-        (now (out .exit)) r) ⌝ }
+    ensures { λ r. ⌜ Writes limit (length (now (out .entry))) (now (out .entry)) count (now (out .exit)) r
+        (answerHere (words (now (part .entry))) (now (work .entry)) accepts i) ⌝ }
 {
     if landed(part, work, accepts, i) {
         let w = answer_at(part, i);
@@ -59,10 +56,8 @@ pub fn write_answers(
     start: usize,
 ) -> usize
     requires { ⌜ (length (words (now part)) ≤ 4096) × (32768 ≤ length (now work)) × (limit ≤ 8192) × (4 * limit ≤ length (now out)) ⌝ }
-    ensures { λ r. ⌜ ((ws : List ℕ) → Written limit (length (now (out .entry))) ws (now (out .entry)) start
-        → Written limit (length (now (out .entry)))
-        (ws ++ answerWords (words (now (part .entry))) (now (work .entry)) accepts (length (words (now (part .entry)))))
-        (now (out .exit)) r) ⌝ }
+    ensures { λ r. ⌜ Writes limit (length (now (out .entry))) (now (out .entry)) start (now (out .exit)) r
+        (answerWords (words (now (part .entry))) (now (work .entry)) accepts (length (words (now (part .entry))))) ⌝ }
 {
     let n = part.len() / 4;
     let mut count = start;

@@ -18,17 +18,17 @@ use Rattle.files.specs.Answers.{answersOf, answersCheck}
 use Rattle.files.proofs.Checks.{outcome-gives, outcome-over}
 use Rattle.files.proofs.Files.{files-length}
 use Rattle.files.proofs.Bundles.{Replies, Firsts, Seconds, firsts-accepted, seconds-accepted}
-use Rattle.paths.specs.Expr.{Expr, count}
-use Rattle.paths.specs.Labels.{exprOf}
-use Rattle.paths.proofs.Paths.{path-small}
-use Rattle.site.specs.First.{reported, firstReply, firstReplyCall}
-use Rattle.site.specs.Second.{called as calledOf, secondReply, secondReplyCall}
-use Rattle.site.proofs.FirstReplies as first
-use Rattle.site.proofs.SecondReplies as second
-use Rattle.hub.specs.CallList.{called, callList, callListCall}
-use Rattle.hub.specs.Join.{joined, joinCall}
-use Rattle.hub.proofs.CallLists as calls
-use Rattle.hub.proofs.Joining as join
+use Rattle.expressions.specs.Expr.{Expr, count}
+use Rattle.expressions.specs.Labels.{exprOf}
+use Rattle.expressions.proofs.Paths.{path-small}
+use Rattle.site_first.specs.First.{reported, firstReply, firstReplyCall}
+use Rattle.site_second.specs.Second.{called as calledOf, secondReply, secondReplyCall}
+use Rattle.site_first.proofs.FirstReplies as first
+use Rattle.site_second.proofs.SecondReplies as second
+use Rattle.hub_calls.specs.CallList.{called, callList, callListCall}
+use Rattle.hub_join.specs.Join.{joined, joinCall}
+use Rattle.hub_calls.proofs.CallLists as calls
+use Rattle.hub_join.proofs.Joining as join
 use Rattle.mowqachi.specs.Plant.{Words, body}
 use Rattle.mowqachi.specs.Demand.{Asked, Enough}
 use Rattle.mowqachi.proofs.Cross.{Called, called-door, called-reach}

@@ -25,12 +25,12 @@ use Rattle.files.proofs.Parts.{doors-ascending, roots-ascending}
 use Rattle.files.proofs.Files.{Made}
 use Rattle.files.proofs.Bundles.{Firsts, Seconds, made-replies, made-words, made-chosen, file-reach}
 use Rattle.files.proofs.Rows.{rows-none}
-use Rattle.paths.specs.Labels.{exprOf}
-use Rattle.site.specs.First.{reported, firstReply}
-use Rattle.site.specs.Second.{secondReply}
-use Rattle.site.proofs.FirstReplies as first
-use Rattle.site.proofs.SecondReplies as second
-use Rattle.hub.proofs.CallLists as calls
+use Rattle.expressions.specs.Labels.{exprOf}
+use Rattle.site_first.specs.First.{reported, firstReply}
+use Rattle.site_second.specs.Second.{secondReply}
+use Rattle.site_first.proofs.FirstReplies as first
+use Rattle.site_second.proofs.SecondReplies as second
+use Rattle.hub_calls.proofs.CallLists as calls
 use Rattle.mowqachi.specs.Plant.{Plant, OneRoot, Closed, HasEdge, TrueCut, body}
 
 -- a true cut is one in any order

@@ -12,11 +12,11 @@ use Rattle.sets.proofs.Reach.{reach-least}
 use Rattle.files.specs.Field.{labelOf, pair, pairNode, pairState}
 use Rattle.files.specs.Part.{nodes}
 use Rattle.files.proofs.Fields.{pair-node, pair-state}
-use Rattle.paths.specs.Expr.{Expr, count}
-use Rattle.paths.specs.Positions.{step, accepts, Run}
-use Rattle.paths.specs.Labels.{holds}
-use Rattle.paths.proofs.Ranges.{step-range}
-use Rattle.paths.proofs.Glushkov.{glushkov}
+use Rattle.expressions.specs.Expr.{Expr, count}
+use Rattle.expressions.specs.Positions.{step, accepts, Run}
+use Rattle.expressions.specs.Labels.{holds}
+use Rattle.expressions.proofs.Ranges.{step-range}
+use Rattle.expressions.proofs.Glushkov.{glushkov}
 use Rattle.walks.specs.Product.{stepIn}
 use Rattle.walks.proofs.Product.{accepts-small, step-iff, pair-step-iff}
 use Rattle.mowqachi.specs.Plant.{Plant, Walk, stay, go, Found, Closed, body, Holds}

@@ -16,14 +16,14 @@ use Rattle.files.specs.Part.{nodes, doors}
 use Rattle.files.proofs.Fields.{pair-node, pair-eta}
 use Rattle.files.proofs.Blocks.{node-small, doors-nodes}
 use Rattle.files.proofs.Parts.{nodes-ascending, roots-doors}
-use Rattle.paths.specs.Expr.{Expr, count}
-use Rattle.paths.specs.Positions.{accepts}
-use Rattle.paths.specs.Labels.{holds}
-use Rattle.paths.proofs.Ranges.{step-range}
+use Rattle.expressions.specs.Expr.{Expr, count}
+use Rattle.expressions.specs.Positions.{accepts}
+use Rattle.expressions.specs.Labels.{holds}
+use Rattle.expressions.proofs.Ranges.{step-range}
 use Rattle.walks.specs.Product.{stepIn, answers}
 use Rattle.walks.proofs.Product.{answers-lists}
-use Rattle.site.specs.First.{reported}
-use Rattle.site.proofs.Reported.{reported-lists, reported-outbound}
+use Rattle.site_first.specs.First.{reported}
+use Rattle.site_first.proofs.Reported.{reported-lists, reported-outbound}
 use Rattle.mowqachi.specs.Plant.{Plant, Found, OneRoot, Closed, body, TrueCut}
 use Rattle.mowqachi.proofs.Comes.{Comes, begin, link, ComesTo, pair-comes, comes-node, reach-comes, found-reach, link-step}
 

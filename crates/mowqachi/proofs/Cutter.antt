@@ -16,10 +16,10 @@ use Rattle.files.proofs.Fields.{site-below}
 use Rattle.files.proofs.Blocks.{Block, number, blocks, nodes-iff, marked-iff, edges-block, block-edges}
 use Rattle.files.proofs.Parts.{whole-part, nodes-ascending}
 use Rattle.files.specs.Cuts.{cutCheck}
-use Rattle.whole.specs.Cut.{cut}
-use Rattle.whole.proofs.Sited.{Fit, sited, site-known, sited-block, block-sited, sited-once}
-use Rattle.whole.proofs.Cutter.{cut-accepted, cut-length, cut-site, cut-words}
-use Rattle.whole.proofs.Parts.{cuts-fit, cut-nodes, cut-roots, cut-edges, cut-crossed}
+use Rattle.cutter.specs.Cut.{cut}
+use Rattle.cutter.proofs.Sited.{Fit, sited, site-known, sited-block, block-sited, sited-once}
+use Rattle.cutter.proofs.Cutter.{cut-accepted, cut-length, cut-site, cut-words}
+use Rattle.cutter.proofs.Parts.{cuts-fit, cut-nodes, cut-roots, cut-edges, cut-crossed}
 use Rattle.mowqachi.specs.Plant.{Plant, OneRoot, TrueCut, Holds, HasEdge, AcceptedPart, Words, body}
 use Rattle.mowqachi.specs.PlantOf.{plantOf, partsOf}
 

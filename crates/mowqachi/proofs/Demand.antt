@@ -16,13 +16,13 @@ use Rattle.files.specs.Part.{nodes}
 use Rattle.files.specs.Answers.{answersOf}
 use Rattle.files.proofs.Words.{words-bytes}
 use Rattle.files.proofs.Bytes.{bytes-flatten}
-use Rattle.site.specs.First.{firstReplyCall}
-use Rattle.site.specs.Second.{secondReplyCall, called as calledOf}
-use Rattle.site.proofs.SecondReplies.{found}
-use Rattle.site.proofs.Traffic.{traffic}
-use Rattle.hub.specs.CallList.{callList, callListCall}
-use Rattle.hub.specs.Join.{joined, joinCall}
-use Rattle.whole.specs.Old.{listed, oldSearchCall}
+use Rattle.site_first.specs.First.{firstReplyCall}
+use Rattle.site_second.specs.Second.{secondReplyCall, called as calledOf}
+use Rattle.site_second.proofs.SecondReplies.{found}
+use Rattle.site_first.proofs.Traffic.{traffic}
+use Rattle.hub_calls.specs.CallList.{callList, callListCall}
+use Rattle.hub_join.specs.Join.{joined, joinCall}
+use Rattle.old.specs.Old.{listed, oldSearchCall}
 use Rattle.mowqachi.specs.Plant.{Found, FinalList, Fits, Words, body}
 use Rattle.mowqachi.specs.Question.{Call, first, calls, second, join, Asking, stopped, going, _>>=_, call, each, Answer, ask}
 use Rattle.mowqachi.specs.Demand.{Demand2, Asked, Put, firstOf, secondOf, Enough, question, bundle, list, bundle′, Over, SmallBundles, Claim, Demand3}

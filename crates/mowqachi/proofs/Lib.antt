@@ -7,6 +7,3 @@ pub mod Accepts
 pub mod PlantOf
 pub mod Cutter
 pub mod Demand
-pub mod Asked
-pub mod Table
-pub mod Vectors

@@ -17,14 +17,14 @@ use Rattle.files.specs.Part.{roots}
 use Rattle.files.specs.Path.{pathCheck}
 use Rattle.files.proofs.Blocks.{roots-nodes, node-small}
 use Rattle.files.proofs.Parts.{nodes-ascending, whole-part, whole-target}
-use Rattle.paths.specs.Expr.{Expr, count}
-use Rattle.paths.specs.Positions.{accepts}
-use Rattle.paths.specs.Labels.{exprOf}
-use Rattle.paths.proofs.Paths.{path-small}
+use Rattle.expressions.specs.Expr.{Expr, count}
+use Rattle.expressions.specs.Positions.{accepts}
+use Rattle.expressions.specs.Labels.{exprOf}
+use Rattle.expressions.proofs.Paths.{path-small}
 use Rattle.walks.specs.Product.{stepIn, answers}
 use Rattle.walks.proofs.Product.{answers-lists}
-use Rattle.whole.specs.Old.{listed, oldSearchCall}
-use Rattle.whole.proofs.OldSearch.{rootPairs, listed-is, old-call}
+use Rattle.old.specs.Old.{listed, oldSearchCall}
+use Rattle.old.proofs.OldSearch.{rootPairs, listed-is, old-call}
 use Rattle.mowqachi.specs.Plant.{Plant, Found, FinalList, Closed, body, Words, Fits}
 use Rattle.mowqachi.specs.Demand.{Enough}
 use Rattle.mowqachi.proofs.Comes.{Comes, begin, link, ComesTo, pair-comes, comes-node, found-iff, found-reach, link-step}

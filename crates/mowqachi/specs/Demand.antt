@@ -11,11 +11,11 @@ use Rattle.files.specs.Part.{doors, outside, partCheck}
 use Rattle.files.specs.Path.{pathCheck}
 use Rattle.files.specs.Reply.{isReach}
 use Rattle.files.specs.Answers.{answersOf}
-use Rattle.paths.specs.Labels.{exprOf}
-use Rattle.site.specs.First.{firstReply}
-use Rattle.site.specs.Second.{secondReply}
-use Rattle.hub.specs.CallList.{callList}
-use Rattle.whole.specs.Old.{oldSearchCall}
+use Rattle.expressions.specs.Labels.{exprOf}
+use Rattle.site_first.specs.First.{firstReply}
+use Rattle.site_second.specs.Second.{secondReply}
+use Rattle.hub_calls.specs.CallList.{callList}
+use Rattle.old.specs.Old.{oldSearchCall}
 use Rattle.mowqachi.specs.Plant.{Plant, OneRoot, Closed, TrueCut, Fits, Words, FinalList}
 use Rattle.mowqachi.specs.Question.{Buffers, Room, Call, first, calls, second, join, Asking, stopped, going, Answer, ask}
 

@@ -2,4 +2,3 @@ pub mod Plant
 pub mod PlantOf
 pub mod Question
 pub mod Demand
-pub mod Table

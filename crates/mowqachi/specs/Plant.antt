@@ -6,8 +6,8 @@ use lib.ListN.{length, drop, getD}
 use Rattle.sets.specs.Sets.{Mem, Distinct, Lists}
 use Rattle.files.specs.Field.{siteOf, labelOf, targetOf, file, answerWord}
 use Rattle.files.specs.Part.{nodes, roots, doors, edges, partCheck, wholeCheck}
-use Rattle.paths.specs.Expr.{Expr, Matches}
-use Rattle.paths.specs.Labels.{holds}
+use Rattle.expressions.specs.Expr.{Expr, Matches}
+use Rattle.expressions.specs.Labels.{holds}
 
 -- Document 01's "plant": a set of nodes, with roots among them, and for each node a set of links; a link is a label and a target. Sets are
 -- predicates: no file, and no bound on its size.

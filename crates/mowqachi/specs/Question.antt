@@ -6,10 +6,10 @@ use lib.ListN.{take, getD}
 use Rattle.files.specs.Word.{words}
 use Rattle.files.specs.Field.{sizeOf}
 use Rattle.files.specs.Outcome.{Outcome, Left, leaves}
-use Rattle.site.specs.First.{firstReplyCall}
-use Rattle.site.specs.Second.{secondReplyCall}
-use Rattle.hub.specs.CallList.{callListCall}
-use Rattle.hub.specs.Join.{joinCall}
+use Rattle.site_first.specs.First.{firstReplyCall}
+use Rattle.site_second.specs.Second.{secondReplyCall}
+use Rattle.hub_calls.specs.CallList.{callListCall}
+use Rattle.hub_join.specs.Join.{joinCall}
 
 -- the bytes of a call's output and working buffer
 pub record Buffers : Type 0 where

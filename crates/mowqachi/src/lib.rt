@@ -3,18 +3,18 @@
 ghost use mathlib.Core.Path.{_≡_};
 ghost use lib.ListN.{length};
 ghost use Rattle.files.specs.Outcome.{left, leaves};
-ghost use Rattle.site.specs.First.{firstReplyCall};
-ghost use Rattle.site.specs.Second.{secondReplyCall};
-ghost use Rattle.hub.specs.CallList.{callListCall};
-ghost use Rattle.hub.specs.Join.{joinCall};
-ghost use Rattle.whole.specs.Old.{oldSearchCall};
-ghost use Rattle.whole.specs.Cut.{cutCall};
-use hub::call_list::call_list;
-use hub::join_call::join;
-use site::answering::second_reply;
-use site::first_call::first_reply;
-use whole::cutting::cut;
-use whole::searching::old_search;
+ghost use Rattle.site_first.specs.First.{firstReplyCall};
+ghost use Rattle.site_second.specs.Second.{secondReplyCall};
+ghost use Rattle.hub_calls.specs.CallList.{callListCall};
+ghost use Rattle.hub_join.specs.Join.{joinCall};
+ghost use Rattle.old.specs.Old.{oldSearchCall};
+ghost use Rattle.cutter.specs.Cut.{cutCall};
+use cutter::cutting::cut;
+use hub_calls::call_list::call_list;
+use hub_join::join_call::join;
+use old::searching::old_search;
+use site_first::first_call::first_reply;
+use site_second::answering::second_reply;
 
 #[no_mangle]
 pub extern "C" fn mowqachi_old_search(

@@ -1,14 +1,14 @@
 -- Laws of words written one after another. Assumes nothing.
 use mathlib.Core.Path.{_≡_, refl, sym, _∙_, ap}
 use mathlib.Core.List.{List, [], _∷_, _++_, append-nil, append-assoc}
-use Prim.Native.Nat.{ℕ, suc, _+_, _*_, _≤_, _<_, min}
+use Prim.Native.Nat.{ℕ, suc, _+_, _*_, _≤_, _<_}
 use native.Mathlib.Omega.{arith}
-use lib.ListN.{length, take, drop, length-append}
+use lib.ListN.{length, length-append}
 use lib.Seq.{take-append-le, take-all}
 use Rattle.files.specs.Word.{putWord}
 use Rattle.files.specs.Outcome.{zeros, padded}
 use Rattle.files.proofs.Buffers.{padded-none, padded-more}
-use Rattle.output.specs.Writer.{Written}
+use Rattle.output.specs.Writer.{Written, Writes}
 
 module _ (limit n : ℕ) where
   length-more : (ws : List ℕ) (w : ℕ) → length (ws ++ w ∷ []) ≡ suc (length ws)
@@ -64,3 +64,29 @@ module _ (limit n : ℕ) where
 -- the header, put in when the length is known
 pub padded-head : (n v w : ℕ) (ws : List ℕ) → putWord (padded n (v ∷ ws)) 0 w ≡ padded n (w ∷ ws)
 padded-head n v w ws = refl
+
+-- words behind words
+
+pub writes-none : (limit n : ℕ) (out : List ℕ) (count : ℕ) → Writes limit n out count out count []
+writes-none limit n out count ws r = rw append-nil r
+
+pub writes-more : {limit n : ℕ} {a b c : List ℕ} {i j k : ℕ} (us vs : List ℕ) → Writes limit n a i b j us → Writes limit n b j c k vs → Writes limit n a i c k (us ++ vs)
+writes-more us vs f g ws r = rw (← append-assoc) (g (ws ++ us) (f ws r))
+
+-- a full buffer takes any
+pub writes-full : {limit n : ℕ} {a b : List ℕ} {i j : ℕ} (us vs : List ℕ) → limit < j → Writes limit n a i b j us → Writes limit n a i b j (us ++ vs)
+writes-full {limit} {n} us vs h f = writes-more us vs f (λ ws r. written-full limit n ws vs h r)
+
+-- a loop that writes: vs so far, to the buffer d, in which `start` words stood
+pub record Adding (limit : ℕ) (d : List ℕ) (start : ℕ) (out : List ℕ) (count : ℕ) (vs : List ℕ) : Type 0 where
+  pub written : Writes limit (length d) d start out count vs
+  pub same : length out ≡ length d
+
+pub adding-none : (limit : ℕ) (d : List ℕ) (start : ℕ) → Adding limit d start d start []
+adding-none limit d start = record { written = writes-none limit (length d) d start; same = refl }
+
+pub adding-more : {limit : ℕ} {d : List ℕ} {start : ℕ} {out out′ : List ℕ} {count r : ℕ} {us : List ℕ} (vs : List ℕ) → Adding limit d start out count us
+    → length out′ ≡ length out → Writes limit (length out) out count out′ r vs → Adding limit d start out′ r (us ++ vs)
+adding-more {limit} {d} {out = out} {out′ = out′} {count = count} {r = r} {us = us} vs f e g =
+    let h : Writes limit (length d) out count out′ r vs = rw (f .same) at g in
+    record { written = writes-more us vs (f .written) h; same = e ∙ f .same }

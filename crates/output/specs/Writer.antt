@@ -1,8 +1,10 @@
 -- Words written one after another to a buffer, counted, and none past a limit.
 use mathlib.Core.Path.{_≡_}
-use mathlib.Core.List.{List}
+use mathlib.Core.List.{List, _++_}
 use Prim.Native.Nat.{ℕ, suc, _≤_, min}
+use lib.Dec.{leb}
 use lib.ListN.{length, take}
+use Rattle.files.specs.Refuse.{_unless_}
 use Rattle.files.specs.Outcome.{padded}
 
 -- Of the words ws the first `limit` stand in `out`, which has n bytes, before zeros; and `count` is how many they are, as far as one past the
@@ -10,3 +12,12 @@ use Rattle.files.specs.Outcome.{padded}
 pub record Written (limit n : ℕ) (ws out : List ℕ) (count : ℕ) : Type 0 where
   pub out-is : out ≡ padded n (take limit ws)
   pub counted : count ≡ min (length ws) (suc limit)
+
+-- the words vs were written behind whatever was written before
+abbrev pub Writes : ℕ → ℕ → List ℕ → ℕ → List ℕ → ℕ → List ℕ → Type 0
+Writes limit n out count out′ r vs = (ws : List ℕ) → Written limit n ws out count → Written limit n (ws ++ vs) out′ r
+
+-- the result stands in `out`, which has n bytes, if it is not over its limit; and r is 15 if it is, else 0
+pub record Filed (limit n : ℕ) (result out : List ℕ) (r : ℕ) : Type 0 where
+  pub number : r ≡ (15 unless leb (length result) limit)
+  pub written : length result ≤ limit → out ≡ padded n result

@@ -18,16 +18,16 @@ use Rattle.files.specs.Expr.{labelAt}
 use Rattle.paths.specs.declared.letters.Letters.{Letters}
 use Rattle.paths.specs.declared.operand.Operand.{Operand}
 use Rattle.paths.specs.declared.builder.Builder.{Builder}
-use Rattle.paths.specs.Expr.{Expr, letters, count}
-use Rattle.paths.specs.Positions.{nullable, first, last, follow, next, accepts, labelWord}
-use Rattle.paths.specs.Postfix.{Part, Tables, compute, tables, partOf, link}
-use Rattle.paths.specs.Labels.{between, holds}
+use Rattle.expressions.specs.Expr.{Expr, letters, count}
+use Rattle.expressions.specs.Positions.{nullable, first, last, follow, next, accepts, labelWord}
+use Rattle.expressions.specs.Postfix.{Part, Tables, compute, tables, partOf, link}
+use Rattle.expressions.specs.Labels.{between, holds}
 use Rattle.paths.specs.Interval.{within, intervalOf}
 use Rattle.paths.specs.Operand.{partIn, tableIn}
 use Rattle.paths.specs.Letters.{intervalAt, reads, Labelled}
 use Rattle.paths.specs.Builder.{stackIn, partsIn, followIn}
 use Rattle.paths.specs.Automaton.{readsIn, Finishes}
-use Rattle.paths.proofs.Ranges.{last-within, follow-within, length-letters}
+use Rattle.expressions.proofs.Ranges.{last-within, follow-within, length-letters}
 use Rattle.paths.proofs.Intervals.{holds-within}
 use Rattle.paths.proofs.Operands.{has-more}
 

@@ -20,8 +20,8 @@ use Rattle.paths.specs.declared.interval.Interval.{Interval}
 use Rattle.paths.specs.declared.letters.Letters.{Letters}
 use Rattle.paths.specs.declared.operand.Operand.{Operand}
 use Rattle.paths.specs.declared.builder.Builder.{Builder}
-use Rattle.paths.specs.Postfix.{Item, put-empty, put-letter, make-then, make-or, make-star, emptyPart, letterPart, thenPart, orPart, starPart, link, compute}
-use Rattle.paths.specs.Labels.{operatorItem, item}
+use Rattle.expressions.specs.Postfix.{Item, put-empty, put-letter, make-then, make-or, make-star, emptyPart, letterPart, thenPart, orPart, starPart, link, compute}
+use Rattle.expressions.specs.Labels.{operatorItem, item}
 use Rattle.paths.specs.Interval.{intervalOf}
 use Rattle.paths.specs.Operand.{partIn, tableIn}
 use Rattle.paths.specs.Letters.{Added, Labelled}

@@ -9,7 +9,7 @@ use Rattle.files.specs.Path.{sortOf, highOf, lowOf, groupOf}
 use Rattle.files.specs.Expr.{labelAt}
 use Rattle.files.specs.declared.expr.Label.{Label}
 use Rattle.files.specs.declared.expr.Label.the-variants.{Range, Group}
-use Rattle.paths.specs.Labels.{groupLow, groupHigh, between, holds}
+use Rattle.expressions.specs.Labels.{groupLow, groupHigh, between, holds}
 use Rattle.paths.specs.declared.interval.Interval.{Interval}
 use Rattle.paths.specs.Interval.{within, groupInterval, intervalOf}
 

@@ -16,7 +16,7 @@ use Rattle.sets.proofs.StateSets.{has-or, has-empty}
 use Rattle.paths.specs.declared.letters.Letters.{Letters}
 use Rattle.paths.specs.declared.interval.Interval.{Interval}
 use Rattle.files.specs.Expr.{labelAt}
-use Rattle.paths.specs.Labels.{between}
+use Rattle.expressions.specs.Labels.{between}
 use Rattle.paths.specs.Interval.{within, intervalOf}
 use Rattle.paths.specs.Letters.{intervalAt, reads, Added, Labelled}
 use Rattle.paths.proofs.Operands.{has-only}

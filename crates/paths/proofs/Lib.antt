@@ -1,7 +1,3 @@
-pub mod Ranges
-pub mod Glushkov
-pub mod Postfix
-pub mod Paths
 pub mod Intervals
 pub mod Operands
 pub mod Lettering
@@ -9,4 +5,3 @@ pub mod Building
 pub mod Automata
 pub mod Words
 pub mod Stepping
-mod Examples

@@ -11,7 +11,7 @@ use lib.Seq.{getD-set-same, getD-set-other}
 use Rattle.sets.specs.States.{hasState, Lowest, Rest}
 use Rattle.sets.proofs.Cases.{by-eq}
 use Rattle.sets.proofs.StateSets.{has-or, has-empty}
-use Rattle.paths.specs.Postfix.{Part, emptyPart, letterPart, thenPart, orPart}
+use Rattle.expressions.specs.Postfix.{Part, emptyPart, letterPart, thenPart, orPart}
 use Rattle.paths.specs.Operand.{partIn, tableIn}
 use Rattle.paths.specs.declared.operand.Operand.{Operand}
 

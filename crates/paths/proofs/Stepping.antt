@@ -11,12 +11,12 @@ use Rattle.sets.specs.Follow.{Follows}
 use Rattle.sets.proofs.Tests.{is-true, passed, and-iff, le-iff, either}
 use Rattle.sets.proofs.Cases.{and-left, and-right, and-intro}
 use Rattle.paths.specs.declared.automaton.Automaton.{Automaton}
-use Rattle.paths.specs.Expr.{Expr, count}
-use Rattle.paths.specs.Positions.{next, labelWord, step}
-use Rattle.paths.specs.Labels.{between, holds}
+use Rattle.expressions.specs.Expr.{Expr, count}
+use Rattle.expressions.specs.Positions.{next, labelWord, step}
+use Rattle.expressions.specs.Labels.{between, holds}
 use Rattle.paths.specs.Letters.{reads}
 use Rattle.paths.specs.Automaton.{Automates}
-use Rattle.paths.proofs.Ranges.{next-range}
+use Rattle.expressions.proofs.Ranges.{next-range}
 
 -- m is the mask of the label
 module _ {a : Automaton} {e : Expr} (h : Automates a e) (label m : ℕ) (k : (p : ℕ) → hasState m p ≡ reads (a .letters) label p) where

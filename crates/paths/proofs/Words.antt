@@ -18,14 +18,14 @@ use Rattle.files.proofs.Checks.{then-iff, checks}
 use Rattle.files.proofs.Reading.{taken, ended}
 use Rattle.paths.specs.declared.builder.Builder.{Builder}
 use Rattle.paths.specs.declared.automaton.Automaton.{Automaton}
-use Rattle.paths.specs.Expr.{Expr}
-use Rattle.paths.specs.Postfix.{put-letter, compute, tables}
-use Rattle.paths.specs.Labels.{operatorItem, item, exprOf}
+use Rattle.expressions.specs.Expr.{Expr}
+use Rattle.expressions.specs.Postfix.{put-letter, compute, tables}
+use Rattle.expressions.specs.Labels.{operatorItem, item, exprOf}
 use Rattle.paths.specs.Letters.{Labelled}
 use Rattle.paths.specs.Builder.{partsIn, followIn, Starts, operandsOf, lettersOf, Ready, Does}
 use Rattle.paths.specs.Automaton.{Automates, Finishes}
-use Rattle.paths.proofs.Postfix.{compute-read}
-use Rattle.paths.proofs.Paths.{path-reads}
+use Rattle.expressions.proofs.Postfix.{compute-read}
+use Rattle.expressions.proofs.Paths.{path-reads}
 
 -- what a word takes, and what it adds to the label words, by its item
 takes-is : (w : ℕ) → operandsOf (item w) ≡ takes w

@@ -6,10 +6,10 @@ use mathlib.Core.Option.{some}
 use Prim.Native.Nat.{ℕ, _≤_}
 use lib.ListN.{length, getD}
 use Rattle.sets.specs.States.{hasState}
-use Rattle.paths.specs.Expr.{Expr, count}
-use Rattle.paths.specs.Positions.{next, accepts, labelWord}
-use Rattle.paths.specs.Postfix.{compute, tables}
-use Rattle.paths.specs.Labels.{between, holds}
+use Rattle.expressions.specs.Expr.{Expr, count}
+use Rattle.expressions.specs.Positions.{next, accepts, labelWord}
+use Rattle.expressions.specs.Postfix.{compute, tables}
+use Rattle.expressions.specs.Labels.{between, holds}
 use Rattle.paths.specs.Letters.{reads, Labelled}
 use Rattle.paths.specs.Builder.{partsIn, followIn}
 use Rattle.paths.specs.declared.automaton.Automaton.{Automaton}

@@ -5,7 +5,7 @@ use mathlib.Core.List.{List, [], _∷_, _++_}
 use Prim.Native.Nat.{ℕ, zero, suc, _+_, _-_, _≤_}
 use lib.ListN.{length, getD}
 use Rattle.files.specs.Path.{mostWaiting}
-use Rattle.paths.specs.Postfix.{Item, put-empty, put-letter, make-then, make-or, make-star, Part, compute}
+use Rattle.expressions.specs.Postfix.{Item, put-empty, put-letter, make-then, make-or, make-star, Part, compute}
 use Rattle.paths.specs.Operand.{partIn, tableIn}
 use Rattle.paths.specs.Letters.{Labelled}
 use Rattle.paths.specs.declared.operand.Operand.{Operand}

@@ -4,7 +4,7 @@ use mathlib.Core.Bool.{Bool}
 use Rattle.files.specs.declared.expr.Label.{Label}
 use Rattle.files.specs.declared.expr.Label.the-variants.{Range, Group}
 use Rattle.paths.specs.declared.interval.Interval.{Interval}
-use Rattle.paths.specs.Labels.{groupLow, groupHigh, between}
+use Rattle.expressions.specs.Labels.{groupLow, groupHigh, between}
 
 abbrev pub within : Interval → ℕ → Bool
 within i label = between (i .low) (i .high) label

@@ -9,7 +9,7 @@ use Rattle.sets.specs.States.{hasState}
 use Rattle.files.specs.Expr.{labelAt}
 use Rattle.paths.specs.declared.interval.Interval.{Interval}
 use Rattle.paths.specs.declared.letters.Letters.{Letters}
-use Rattle.paths.specs.Labels.{between}
+use Rattle.expressions.specs.Labels.{between}
 use Rattle.paths.specs.Interval.{within, intervalOf}
 
 -- the interval of position p

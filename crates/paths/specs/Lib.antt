@@ -1,7 +1,3 @@
-pub mod Expr
-pub mod Positions
-pub mod Postfix
-pub mod Labels
 pub mod Interval
 pub mod Operand
 pub mod Letters

@@ -5,7 +5,7 @@ use mathlib.Core.List.{List}
 use lib.ListN.{getD}
 use Rattle.sets.specs.States.{hasState}
 use Rattle.paths.specs.declared.operand.Operand.{Operand}
-use Rattle.paths.specs.Postfix.{Part}
+use Rattle.expressions.specs.Postfix.{Part}
 
 abbrev pub partIn : Operand → Part
 partIn o = record { null = o .null; begins = hasState (o .begins); ends = hasState (o .ends) }

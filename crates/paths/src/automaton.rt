@@ -5,7 +5,7 @@ ghost use lib.ListN.{drop};
 ghost use Rattle.sets.specs.States.{hasState};
 ghost use Rattle.files.specs.Word.{words};
 ghost use Rattle.files.specs.Path.{pathCheck};
-ghost use Rattle.paths.specs.Labels.{exprOf};
+ghost use Rattle.expressions.specs.Labels.{exprOf};
 ghost use Rattle.paths.specs.Letters.{reads};
 ghost use Rattle.paths.specs.Automaton.{Automates, Finishes};
 use super::builder::Builder;

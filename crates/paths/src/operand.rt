@@ -2,7 +2,7 @@
 ghost use mathlib.Core.Path.{_≡_};
 ghost use mathlib.Core.Bool.{cond};
 ghost use Prim.Native.Nat.{_<_};
-ghost use Rattle.paths.specs.Postfix.{emptyPart, letterPart, thenPart, orPart, starPart};
+ghost use Rattle.expressions.specs.Postfix.{emptyPart, letterPart, thenPart, orPart, starPart};
 ghost use Rattle.paths.specs.Operand.{partIn};
 use sets::states::with;
 

@@ -1,6 +1,6 @@
 // What may follow each position, a row of states for each.
 ghost use mathlib.Core.Path.{_≡_};
-ghost use Rattle.paths.specs.Postfix.{link};
+ghost use Rattle.expressions.specs.Postfix.{link};
 ghost use Rattle.paths.specs.Operand.{partIn, tableIn};
 use super::operand::Operand;
 use sets::states::lowest;

@@ -1,2 +1,3 @@
 pub mod Counts
 pub mod Wholes
+pub mod Marking

@@ -17,7 +17,7 @@ ghost use mathlib.Core.Path.{_≡_};
 ghost use lib.ListN.{drop};
 ghost use Rattle.files.specs.Word.{words};
 ghost use Rattle.files.specs.Refuse.{_then_, sizeCheck};
-ghost use Rattle.files.specs.Part.{isNode, isEdge, isRoot, start, next, nodeCheck, edgeCheck, wordCheck, scan, partCheck};
+ghost use Rattle.files.specs.Part.{start, next, nodeCheck, edgeCheck, wordCheck, scan, partCheck};
 
 fn check_node(st: Seen, w: u32) -> u32
     ensures { λ r. ⌜ r ≡ nodeCheck st w ⌝ }

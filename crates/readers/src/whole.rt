@@ -1,29 +1,24 @@
 // A whole: a part with a root and every target among its nodes. The nodes are kept as a set in the working buffer, so that
 // each target is looked up at once.
+use crate::kinds::mark_kind;
 use crate::part::check_part;
 use files::buffer::clear;
 use files::cursor::Cursor;
 use files::cursor::Step;
-use files::field::node;
 use files::field::target;
 use files::part::is_edge;
-use files::part::is_node;
 use files::part::is_root;
 use files::refuse::first;
 use files::refuse::refuse;
-use sets::node_set::add;
 use sets::node_set::has;
 ghost use mathlib.Core.Path.{_≡_};
-ghost use mathlib.Core.Bool.{_&&_, _||_};
-ghost use Prim.Native.Nat.{ℕ, _≤_};
-ghost use lib.Dec.{eqb};
+ghost use Prim.Native.Nat.{_≤_};
 ghost use lib.ListN.{length};
-ghost use Rattle.sets.specs.Sets.{any, member};
+ghost use Rattle.sets.specs.Sets.{any};
 ghost use Rattle.sets.specs.NodeSet.{hasNode};
 ghost use Rattle.files.specs.Word.{words};
-ghost use Rattle.files.specs.Field.{nodeOf};
 ghost use Rattle.files.specs.Refuse.{_then_, sizeCheck};
-ghost use Rattle.files.specs.Part.{isNode, isRoot, nodes, lost, endCheck, wholeCheck};
+ghost use Rattle.files.specs.Part.{isRoot, lost, endCheck, wholeCheck};
 
 // Whether some word is a root.
 fn has_root(bytes: &[u8]) -> bool
@@ -40,35 +35,6 @@ fn has_root(bytes: &[u8]) -> bool
             }
             Step::End => {
                 return false;
-            }
-        }
-    }
-}
-
-// Adds a node word's node to the set.
-fn mark_node(work: &mut [u8], w: u32)
-    requires { ⌜ 8192 ≤ length (now work) ⌝ }
-    ensures { λ _. ⌜ ((x : ℕ) → hasNode (now (work .exit)) 0 x ≡ (hasNode (now (work .entry)) 0 x || (isNode w && eqb x (nodeOf w)))) ⌝ }
-{
-    if is_node(w) {
-        add(work, 0, node(w));
-    }
-}
-
-// Adds every node to the set.
-fn mark_nodes(bytes: &[u8], work: &mut [u8])
-    requires { ⌜ 8192 ≤ length (now work) ⌝ }
-    ensures { λ _. ⌜ ((x : ℕ) → hasNode (now (work .exit)) 0 x ≡ (hasNode (now (work .entry)) 0 x || member x (nodes (words (now (bytes .entry)))))) ⌝ }
-{
-    let mut cur = Cursor { at: 0 };
-    loop {
-        match cur.read(bytes) {
-            Step::Word(w, next) => {
-                mark_node(work, w);
-                cur = next;
-            }
-            Step::End => {
-                return;
             }
         }
     }
@@ -109,7 +75,7 @@ fn check_end(bytes: &[u8], work: &mut [u8]) -> u32
     ensures { λ r. ⌜ r ≡ endCheck (words (now (bytes .entry))) ⌝ }
 {
     clear(work);
-    mark_nodes(bytes, work);
+    mark_kind(bytes, work, 2);
     let lost = has_lost(bytes, work);
     first(refuse(7, has_root(bytes)), refuse(8, !lost))
 }

@@ -17,10 +17,10 @@ use Rattle.sets.proofs.Tests.{passed, is-true}
 use Rattle.files.specs.Field.{targetOf, pair, pairNode, pairState}
 use Rattle.files.specs.Part.{isEdge, nodes, outside}
 use Rattle.files.proofs.Blocks.{outside-iff}
-use Rattle.paths.specs.Expr.{Expr}
+use Rattle.expressions.specs.Expr.{Expr}
 use Rattle.walks.specs.Product.{stepIn}
 use Rattle.slots.specs.Slots.{nodeAt, edgeAt, number, slotOf, placeOf, isReached, Laid}
-use Rattle.walks.specs.Search.{Follow, Marks, Slot, Searched}
+use Rattle.walks.specs.Search.{Follow, Sought, Slot, Searched}
 use Rattle.walks.specs.Prepare.{Tables}
 use Rattle.slots.proofs.Places.{in-node, node-in, nodes-same, edge-below, edge-no-node, node-below}
 use Rattle.slots.proofs.Owning.{header-edge}
@@ -134,11 +134,11 @@ module _ (ws : List ℕ) (t : ℕ) (w : List ℕ) (laid : Laid ws t w) where
 
 -- ---- what a search found
 
-module _ (ws : List ℕ) (e : Expr) (t : ℕ) (follow w w′ cs : List ℕ) (tables : Tables ws e t w) (table : Follow e follow) (marks : Marks ws w cs)
+module _ (ws : List ℕ) (e : Expr) (t : ℕ) (follow w w′ cs : List ℕ) (tables : Tables ws e t w) (table : Follow e follow) (sought : Sought ws e w cs)
     (found : Searched ws t follow w w′) where
   -- at a node
   pub node-found : (i q : ℕ) → nodeAt ws i ≡ true → q < 16 → (isReached w′ i q ≡ true) ↔ Reach (stepIn (drop 1 ws) e) cs (pair (number ws i) q)
-  node-found i q n b = found .exact e cs table (tables .masked) marks i q (node-below ws i n, inl n) b
+  node-found i q n b = found .exact e cs table (tables .masked) sought i q (node-below ws i n, inl n) b
 
   -- at the k-th outside target
   pub outer-found : (k q : ℕ) → k < t → q < 16
@@ -146,7 +146,7 @@ module _ (ws : List ℕ) (e : Expr) (t : ℕ) (follow w w′ cs : List ℕ) (tab
   outer-found k q l b =
       let o = tables .laid .listed k l in
       rw (found .kept .places k l, outside-at ws t w (tables .laid) k l)
-      (found .exact e cs table (tables .masked) marks (placeOf w k) q (o .below, inr (o .self, o .edge)) b)
+      (found .exact e cs table (tables .masked) sought (placeOf w k) q (o .below, inr (o .self, o .edge)) b)
 
   -- what is reached outside the part: the pairs of the outside targets
   pub outside-found : (c : ℕ)
@@ -165,7 +165,7 @@ module _ (ws : List ℕ) (e : Expr) (t : ℕ) (follow w w′ cs : List ℕ) (tab
       to : (Reach (stepIn (drop 1 ws) e) cs c × (Mem (pairNode c) (nodes (drop 1 ws)) → ⊥))
           → (k : ℕ) × (k < t) × (getD (outside (drop 1 ws)) k 0 ≡ pairNode c) × (isReached w′ (placeOf w′ k) (pairState c) ≡ true)
       to (r, none) =
-          let (j, s, q) = reach-slot ws t w (tables .laid) follow e cs table (tables .masked) marks r in
+          let (j, s, q) = reach-slot ws t w (tables .laid) follow e cs table (tables .masked) sought r in
           let (k, l, f) = at-slot j s q none in
           let z : getD (outside (drop 1 ws)) k 0 ≡ pairNode c = outside-at ws t w (tables .laid) k l ∙ ap (number ws) f ∙ q in
           (k, l, z, outer-found k (pairState c) l (omega arith) .1 (subst (Reach (stepIn (drop 1 ws) e) cs) (sym (whole k z)) r))

@@ -15,9 +15,9 @@ use Rattle.sets.proofs.Tests.{passed, is-true, and-iff, both, le-iff}
 use Rattle.sets.proofs.Tables.{length-put, half-same, half-apart, half-other}
 use Rattle.files.specs.Field.{labelOf}
 use Rattle.paths.specs.declared.automaton.Automaton.{Automaton}
-use Rattle.paths.specs.Expr.{Expr, count}
-use Rattle.paths.specs.Positions.{labelWord}
-use Rattle.paths.specs.Labels.{between, holds}
+use Rattle.expressions.specs.Expr.{Expr, count}
+use Rattle.expressions.specs.Positions.{labelWord}
+use Rattle.expressions.specs.Labels.{between, holds}
 use Rattle.paths.specs.Letters.{reads}
 use Rattle.paths.specs.Automaton.{Automates}
 use Rattle.slots.specs.Slots.{nodeAt, edgeAt, reachedOf, pendingOf, maskOf, Laid, Kept}

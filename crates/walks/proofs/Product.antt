@@ -21,10 +21,10 @@ use Rattle.files.specs.Field.{labelOf, targetOf, pair, pairNode, pairState}
 use Rattle.files.specs.Part.{edges, nodes}
 use Rattle.files.proofs.Fields.{pair-node, pair-state}
 use Rattle.files.proofs.Blocks.{nodes-length, edge-of}
-use Rattle.paths.specs.Expr.{Expr, count}
-use Rattle.paths.specs.Positions.{follow, labelWord, step, accepts}
-use Rattle.paths.specs.Labels.{holds}
-use Rattle.paths.proofs.Ranges.{step-range, last-within, follow-within}
+use Rattle.expressions.specs.Expr.{Expr, count}
+use Rattle.expressions.specs.Positions.{follow, labelWord, step, accepts}
+use Rattle.expressions.specs.Labels.{holds}
+use Rattle.expressions.proofs.Ranges.{step-range, last-within, follow-within}
 use Rattle.walks.specs.Product.{Walk, stay, go, positions, stepIn, reached, answers}
 
 pub positions-iff : (n p : ℕ) → Mem p (positions n) ↔ ((1 ≤ p) × (p ≤ n))

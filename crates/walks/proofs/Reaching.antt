@@ -10,7 +10,6 @@ use lib.Dec.{T}
 use lib.ListN.{length, getD, drop}
 use Rattle.sets.specs.Sets.{Mem}
 use Rattle.sets.specs.Reach.{Reach, seed, next}
-use Rattle.sets.specs.States.{hasState}
 use Rattle.sets.proofs.Cases.{bool-cases, clash}
 use Rattle.sets.proofs.Tests.{passed, is-true, and-iff, both}
 use Rattle.sets.proofs.Searches as searches
@@ -19,20 +18,16 @@ use Rattle.files.specs.Field.{labelOf, targetOf, pair, pairNode, pairState}
 use Rattle.files.specs.Part.{edges}
 use Rattle.files.proofs.Fields.{pair-node, pair-state}
 use Rattle.files.proofs.Blocks.{edge-of}
-use Rattle.paths.specs.Expr.{Expr}
-use Rattle.paths.specs.Positions as positions
-use Rattle.paths.specs.Positions.{labelWord}
-use Rattle.paths.specs.Labels.{holds}
-use Rattle.paths.proofs.Ranges.{step-range}
+use Rattle.expressions.specs.Expr.{Expr}
+use Rattle.expressions.specs.Positions as positions
+use Rattle.expressions.specs.Positions.{labelWord}
+use Rattle.expressions.specs.Labels.{holds}
+use Rattle.expressions.proofs.Ranges.{step-range}
 use Rattle.walks.specs.Product.{stepIn}
 use Rattle.slots.specs.Slots.{nodeAt, edgeAt, number, slotOf, isReached, Laid}
-use Rattle.walks.specs.Search.{Edge, Marks, Follow, Masked, Slot}
+use Rattle.walks.specs.Search.{Step, Sought, Follow, Masked, Slot}
 use Rattle.walks.proofs.Product.{step-iff, pair-step-iff}
 use Rattle.slots.proofs.Places.{edge-no-node, node-below, in-node, nodes-same, nodes-apart, behind-iff}
-
--- a step along the tables w: an edge word of the node at i leads to slot j and lets p be entered, and p may follow q
-abbrev pub Step : List ℕ → List ℕ → List ℕ → ℕ → ℕ → ℕ → ℕ → Type 0
-Step ws w follow i q j p = (q < 16) × ((x : ℕ) × Edge ws w i (length ws) j p x) × (hasState (getD follow q 0) p ≡ true)
 
 module _ (ws : List ℕ) (t : ℕ) (w : List ℕ) (laid : Laid ws t w) where
   -- an outside target is no node
@@ -55,13 +50,13 @@ module _ (ws : List ℕ) (t : ℕ) (w : List ℕ) (laid : Laid ws t w) where
   slot-of x l e =
       (laid .below x l e, ⊎-elim (λ n. inl n) (λ n. let o = laid .outer x l e n in inr (o .self, o .edge)) (bool-cases (nodeAt ws (slotOf w x))))
 
-  module _ (follow : List ℕ) (e : Expr) (cs : List ℕ) (table : Follow e follow) (masks : Masked ws e w) (marks : Marks ws w cs) where
+  module _ (follow : List ℕ) (e : Expr) (cs : List ℕ) (table : Follow e follow) (masks : Masked ws e w) (sought : Sought ws e w cs) where
     abbrev Came : ℕ → ℕ → Type 0
     Came = Comes (Marked (length ws) (isReached w)) (Step ws w follow)
 
-    came-reach : {j q : ℕ} → Came j q → q < 16 → Reach (stepIn (drop 1 ws) e) cs (pair (number ws j) q)
+    pub came-reach : {j q : ℕ} → Came j q → q < 16 → Reach (stepIn (drop 1 ws) e) cs (pair (number ws j) q)
     unfolding number
-    came-reach (searches.seed {i} {q} (l, m)) b = seed (marks .sound i q l b m .1)
+    came-reach (searches.seed {i} {q} (l, m)) b = sought .sound i q l b m
     came-reach (searches.step {i} {q} {j} {p} r (q<, (x, d), f)) b =
         let y = d .behind in
         let edge = y .edges x (y .after) (omega arith) in
@@ -106,7 +101,7 @@ module _ (ws : List ℕ) (t : ℕ) (w : List ℕ) (laid : Laid ws t w) where
         )
 
     reach-came : {c : ℕ} → Reach (stepIn (drop 1 ws) e) cs c → (j : ℕ) × Slot ws w j × (number ws j ≡ pairNode c) × Came j (pairState c)
-    reach-came (seed {x = c} m) = let (j, l, n, q, h) = marks .complete c m in (j, (l, inl n), q, searches.seed (l, h))
+    reach-came (seed {x = c} m) = let (j, l, n, q, h) = sought .complete c m in (j, (l, inl n), q, searches.seed (l, h))
     reach-came (next {x = c} {y = d} r m) = found-next c d (reach-came r) m
 
     pub reach-slot : {c : ℕ} → Reach (stepIn (drop 1 ws) e) cs c → (j : ℕ) × Slot ws w j × (number ws j ≡ pairNode c)

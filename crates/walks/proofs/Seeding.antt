@@ -9,17 +9,20 @@ use borrow.Author.Tests.{eq-eqb, eqb-true}
 use lib.Dec.{eqb}
 use lib.ListN.{length}
 use Rattle.sets.specs.Sets.{Mem, here, there, Same}
+use Rattle.sets.specs.Reach.{seed}
 use Rattle.sets.specs.States.{hasState}
 use Rattle.sets.specs.Table.{putHalf}
 use Rattle.sets.proofs.Cases.{bool-cases, eq-or-ne, or-elim, or-right, and-left, and-right, and-intro, clash}
+use Rattle.sets.proofs.Reach.{reach-trans}
 use Rattle.sets.proofs.StateSets.{has-empty}
 use Rattle.sets.proofs.Stacks.{stacked-empty}
 use Rattle.sets.proofs.Tables.{length-put, half-same, half-apart, half-other}
 use Rattle.files.specs.Field.{pair, pairNode, pairState}
 use Rattle.files.proofs.Fields.{pair-node, pair-state}
-use Rattle.slots.specs.Slots.{nodeAt, number, reachedOf, pendingOf, isReached, Laid, Kept, waitsIn, placeIn}
-use Rattle.walks.specs.Search.{Entered, Waiting, Begun, Marks, Blank, Forgot, Fresh, Seeded}
-use Rattle.walks.proofs.Storing.{kept-refl, kept-trans, kept-reached, kept-pending, laid-kept}
+use Rattle.expressions.specs.Expr.{Expr}
+use Rattle.slots.specs.Slots.{nodeAt, number, reachedOf, pendingOf, isReached, isPending, Laid, Kept, waitsIn, placeIn}
+use Rattle.walks.specs.Search.{Entered, Waiting, Begun, Closed, Marks, Sought, Blank, Forgot, Fresh, Seeded}
+use Rattle.walks.proofs.Storing.{kept-refl, kept-trans, kept-sym, kept-reached, kept-pending, laid-kept, step-kept, step-from, step-inside}
 use Rattle.walks.proofs.Entering.{waits-no}
 use Rattle.slots.proofs.Places.{node-below}
 
@@ -31,6 +34,14 @@ marks-none ws w b =
       sound = λ j q l s h. absurd (clash h (rw (b .reached j l) (has-empty q)));
       complete = λ c m. elim m [ ];
     }
+
+-- so it is closed
+pub closed-blank : (ws w follow : List ℕ) → Blank ws w → Closed ws follow w
+closed-blank ws w follow b i q j p l h f s = absurd (clash h (rw (b .reached i l) (has-empty q)))
+
+-- marked pairs, before any step
+pub marks-sought : (ws : List ℕ) (e : Expr) (w cs : List ℕ) → Marks ws w cs → Sought ws e w cs
+marks-sought ws e w cs m = record { sound = λ j q l s h. seed (m .sound j q l s h .1); complete = m .complete }
 
 -- the same pairs in another order
 pub marks-same : {ws w cs ds : List ℕ} → Same cs ds → Marks ws w cs → Marks ws w ds
@@ -44,7 +55,9 @@ pub begun-blank : (ws : List ℕ) (t : ℕ) (w : List ℕ) → Laid ws t w → B
 begun-blank ws t w laid b =
     record {
       laid = laid;
-      ready = λ j q l n. rw (b .pending j l n, b .reached j l);
+      within = λ j q l h.
+          let n = and-left (nodeAt ws j) (hasState (pendingOf w j) q) h in
+          absurd (clash (and-right (nodeAt ws j) (hasState (pendingOf w j) q) h) (rw (b .pending j l n) (has-empty q)));
       stack = stacked-empty (length ws) (waitsIn ws w) (placeIn t w) (idle laid b);
     }
   where
@@ -104,10 +117,12 @@ forget-all {ws} {t} {w} {w′} {i} h laid f =
 
 -- ---- a node is marked
 
-fresh-is : (a a′ b b′ : Bool) → (a ≡ true → a′ ≡ true) → b ≡ a → b′ ≡ (b || (a′ && not a)) → b′ ≡ a′
-fresh-is true a′ b b′ h e f = f ∙ rw (e, h refl)
-fresh-is false true b b′ h e f = f ∙ rw e
-fresh-is false false b b′ h e f = f ∙ rw e
+-- what is reached and not pending, where what was gained is pending, was so before
+settled : (a a′ b b′ : Bool) → b′ ≡ (b || (a′ && not a)) → b′ ≡ false → a′ ≡ true → (a ≡ true) × (b ≡ false)
+settled true a′ true b′ e f h = absurd (clash e f)
+settled true a′ false b′ e f h = (refl, refl)
+settled false a′ true b′ e f h = absurd (clash e f)
+settled false a′ false b′ e f h = absurd (clash (e ∙ rw h) f)
 
 module _ (ws : List ℕ) (t : ℕ) (w w′ : List ℕ) (i q m top r : ℕ) (b : Begun ws t w top) (node : nodeAt ws i ≡ true) (small : q < 16)
     (has : (p : ℕ) → hasState m p ≡ (hasState 0 p || eqb p q)) (x : Entered ws t w w′ i m) (st : Waiting ws t w′ r) where
@@ -120,37 +135,66 @@ module _ (ws : List ℕ) (t : ℕ) (w w′ : List ℕ) (i q m top r : ℕ) (b : 
   one : (p : ℕ) → hasState m p ≡ eqb p q
   one p = has p ∙ rw (has-empty p)
 
-  ready : (j p : ℕ) → j < length ws → nodeAt ws j ≡ true → hasState (pendingOf w′ j) p ≡ isReached w′ j p
-  ready j p l n =
-      fresh-is (isReached w j p) (isReached w′ j p) (hasState (pendingOf w j) p) (hasState (pendingOf w′ j) p) (x .grown .more j p (omega (arith, few))) (b .ready j p l n)
-      (rw n at (x .grown .fresh j p (omega (arith, few))))
+  within : (j p : ℕ) → j < length ws → isPending ws w′ j p ≡ true → isReached w′ j p ≡ true
+  within j p l h =
+      ⊎-elim (λ a. x .grown .more j p (omega (arith, few)) (b .within j p l a))
+      (λ a. and-left (isReached w′ j p) (not (isReached w j p)) (and-right (nodeAt ws j) (isReached w′ j p && not (isReached w j p)) a))
+      (or-elim (isPending ws w j p) (nodeAt ws j && (isReached w′ j p && not (isReached w j p))) (sym (x .grown .fresh j p (omega (arith, few))) ∙ h))
+
+  closed : (follow : List ℕ) → Closed ws follow w → Closed ws follow w′
+  closed follow c k p j y l h f s =
+      let n = step-from ws w′ follow k p j y s in
+      let g : isPending ws w′ k p ≡ (isPending ws w k p || (isReached w′ k p && not (isReached w k p))) =
+      x .grown .fresh k p (omega (arith, few)) ∙ ap (λ u. isPending ws w k p || (u && (isReached w′ k p && not (isReached w k p)))) n in
+      let (r, o) = settled (isReached w k p) (isReached w′ k p) (isPending ws w k p) (isPending ws w′ k p) g f h in
+      let s′ = step-kept follow few (kept-sym (x .grown .kept)) s in
+      x .grown .more j y (omega (arith, few, step-inside ws t w follow (b .laid) k p j y l s′)) (c k p j y l r o s′)
+
+  -- a pair that is reached at its node word
+  abbrev Held : List ℕ → ℕ → Type 0
+  Held v c = (j : ℕ) × (j < length ws) × (nodeAt ws j ≡ true) × (number ws j ≡ pairNode c) × (isReached v j (pairState c) ≡ true)
+
+  held : (cs : List ℕ) → ((c : ℕ) → Mem c cs → Held w c) → (c : ℕ) → Mem c (pair (number ws i) q ∷ cs) → Held w′ c
+  held cs k c (here e) = (
+    i,
+    below,
+    node,
+    sym (ap pairNode e ∙ pair-node (number ws i) q small),
+    rw (e, pair-state (number ws i) q small) (x .reached i q (omega (arith, few, below))
+        ∙ or-right (isReached w i q) (eqb i i && hasState m q) (and-intro (eqb i i) (hasState m q) (eq-eqb i i refl) (one q ∙ eq-eqb q q refl))),
+  )
+  held cs k c (there y) =
+      let (j, l, n, e, h) = k c y in
+      (j, l, n, e, x .grown .more j (pairState c) (omega (arith, few)) h)
+
+  -- what is reached was so before, or is the pair that was marked
+  either-way : (j p : ℕ) → j < length ws → isReached w′ j p ≡ true → (isReached w j p ≡ true) ⊎ ((j ≡ i) × (p ≡ q))
+  either-way j p l h =
+      ⊎-elim inl
+      (λ a. inr (eqb-true j i (and-left (eqb j i) (hasState m p) a), eqb-true p q (sym (one p) ∙ and-right (eqb j i) (hasState m p) a)))
+      (or-elim (isReached w j p) (eqb j i && hasState m p) (sym (x .reached j p (omega (arith, few))) ∙ h))
 
   marks : (cs : List ℕ) → Marks ws w cs → Marks ws w′ (pair (number ws i) q ∷ cs)
   marks cs k =
       record {
         sound = λ j p l s h.
-            ⊎-elim (λ a. let y = k .sound j p l s a in (y .0, there (y .1)))
-            (λ a.
-            let e : j ≡ i = eqb-true j i (and-left (eqb j i) (hasState m p) a) in
-            let d : p ≡ q = eqb-true p q (sym (one p) ∙ and-right (eqb j i) (hasState m p) a) in
-            rw (e, d) (node, here refl))
-            (or-elim (isReached w j p) (eqb j i && hasState m p) (sym (x .reached j p (omega (arith, few))) ∙ h));
-        complete = complete cs k;
+            ⊎-elim (λ a. let y = k .sound j p l s a in (y .0, there (y .1))) (λ (e, d). rw (e, d) (node, here refl)) (either-way j p l h);
+        complete = held cs (k .complete);
       }
-    where
-      complete : (cs : List ℕ) → Marks ws w cs → (c : ℕ) → Mem c (pair (number ws i) q ∷ cs)
-          → (j : ℕ) × (j < length ws) × (nodeAt ws j ≡ true) × (number ws j ≡ pairNode c) × (isReached w′ j (pairState c) ≡ true)
-      complete cs k c (here e) = (
-        i,
-        below,
-        node,
-        sym (ap pairNode e ∙ pair-node (number ws i) q small),
-        rw (e, pair-state (number ws i) q small) (x .reached i q (omega (arith, few, below))
-            ∙ or-right (isReached w i q) (eqb i i && hasState m q) (and-intro (eqb i i) (hasState m q) (eq-eqb i i refl) (one q ∙ eq-eqb q q refl))),
-      )
-      complete cs k c (there y) =
-          let (j, l, n, e, h) = k .complete c y in
-          (j, l, n, e, x .grown .more j (pairState c) (omega (arith, few)) h)
+
+  sought : (e : Expr) (cs : List ℕ) → Sought ws e w cs → Sought ws e w′ (pair (number ws i) q ∷ cs)
+  sought e cs k =
+      record {
+        sound = λ j p l s h.
+            ⊎-elim (λ a. reach-trans (λ c n. seed (there n)) _ (k .sound j p l s a)) (λ (u, v). rw (u, v) (seed (here refl))) (either-way j p l h);
+        complete = held cs (k .complete);
+      }
 
   pub seeded : Seeded ws t w w′ i q r
-  seeded = record { kept = x .grown .kept; begun = record { laid = laid-kept (x .grown .kept) (b .laid); ready = ready; stack = st }; marks = marks }
+  seeded = record {
+    kept = x .grown .kept;
+    begun = record { laid = laid-kept (x .grown .kept) (b .laid); within = within; stack = st };
+    closed = closed;
+    marks = marks;
+    sought = sought;
+  }

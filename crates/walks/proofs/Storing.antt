@@ -10,6 +10,8 @@ use Rattle.sets.specs.Table.{putHalf}
 use Rattle.sets.proofs.Cases.{clash}
 use Rattle.sets.proofs.Tables.{length-put, half-apart, half-other}
 use Rattle.slots.specs.Slots.{nodeAt, slotOf, placeOf, Roomy, Outer, Laid, Kept}
+use Rattle.slots.proofs.Places.{edge-no-node}
+use Rattle.walks.specs.Search.{Edge, Step}
 
 pub kept-refl : (ws : List ℕ) (t : ℕ) (w : List ℕ) → Kept ws t w w
 kept-refl ws t w = record { long = refl; slots = λ x l. refl; masks = λ x l n. refl; places = λ k l. refl }
@@ -21,6 +23,15 @@ kept-trans k h =
       slots = λ x l. h .slots x l ∙ k .slots x l;
       masks = λ x l n. h .masks x l n ∙ k .masks x l n;
       places = λ x l. h .places x l ∙ k .places x l;
+    }
+
+pub kept-sym : {ws : List ℕ} {t : ℕ} {w w′ : List ℕ} → Kept ws t w w′ → Kept ws t w′ w
+kept-sym k =
+    record {
+      long = sym (k .long);
+      slots = λ x l. sym (k .slots x l);
+      masks = λ x l n. sym (k .masks x l n);
+      places = λ x l. sym (k .places x l);
     }
 
 module _ (ws : List ℕ) (t : ℕ) (w : List ℕ) (j v : ℕ) where
@@ -83,3 +94,28 @@ roomy-kept h r = record { few = r .few; long = omega (arith, h .long, r .long); 
 
 pub laid-kept : {ws : List ℕ} {t : ℕ} {w w′ : List ℕ} → Kept ws t w w′ → Laid ws t w → Laid ws t w′
 laid-kept {w′ = w′} h l = laid-same w′ (h .long) (h .slots) (h .places) l
+
+-- the same edges by tables that were kept
+pub edge-kept : {ws : List ℕ} {t : ℕ} {w w′ : List ℕ} {i to j p x : ℕ} → length ws ≤ 4096 → Kept ws t w w′ → Edge ws w i to j p x → Edge ws w′ i to j p x
+edge-kept {ws} {x = x} few k d =
+    let b = d .behind in
+    let l : x < 4096 = omega (arith, b .below) in
+    record {
+      behind = b;
+      before = d .before;
+      target = k .slots x l ∙ d .target;
+      mask = rw (k .masks x l (edge-no-node ws x (b .edges x (b .after) (omega arith)))) (d .mask);
+    }
+
+-- and the same steps
+pub step-kept : {ws : List ℕ} {t : ℕ} {w w′ : List ℕ} (follow : List ℕ) {i q j p : ℕ} → length ws ≤ 4096 → Kept ws t w w′ → Step ws w follow i q j p → Step ws w′ follow i q j p
+step-kept follow few k (b, (x, d), f) = (b, (x, edge-kept few k d), f)
+
+-- a step leads from a node word
+pub step-from : (ws w follow : List ℕ) (i q j p : ℕ) → Step ws w follow i q j p → nodeAt ws i ≡ true
+step-from ws w follow i q j p (b, (x, d), f) = d .behind .node
+
+-- to a slot
+pub step-inside : (ws : List ℕ) (t : ℕ) (w follow : List ℕ) → Laid ws t w → (i q j p : ℕ) → i < length ws → Step ws w follow i q j p → j < length ws
+step-inside ws t w follow laid i q j p l (b, (x, d), f) =
+    rw (← d .target) (laid .below x (d .behind .below) (d .behind .edges x (d .behind .after) (omega arith)))

@@ -15,56 +15,20 @@ use Rattle.sets.specs.Table.{putHalf}
 use Rattle.sets.proofs.Cases.{eq-or-ne, and-left, and-right, and-intro, clash, bool-cases}
 use Rattle.sets.proofs.StateSets.{has-empty, has-below, lowest-is}
 use Rattle.sets.proofs.Stacks.{stacked-same, stacked-pop}
-use Rattle.sets.proofs.Searches.{Searching, Turn, Turned, search-start, search-turn, search-end}
+use Rattle.sets.proofs.Searches.{Searching, seed, Turn, Turned, search-turn, search-end}
 use Rattle.sets.proofs.Tables.{half-same, half-apart, half-other}
+use Rattle.files.specs.Field.{pairState}
 use Rattle.slots.specs.Slots.{nodeAt, reachedOf, pendingOf, placeOf, isReached, isPending, Laid, Kept, waitsIn, placeIn}
-use Rattle.walks.specs.Search.{Edge, Hit, Walked, Waiting, Begun, Searched}
-use Rattle.walks.proofs.Storing.{kept-trans, kept-pending}
+use Rattle.walks.specs.Search.{Hit, Walked, Waiting, Begun, Step, Closed, Searched}
+use Rattle.walks.proofs.Storing.{kept-trans, kept-sym, kept-pending, laid-kept, edge-kept, step-kept, step-from, step-inside}
 use Rattle.walks.proofs.Entering.{waits-yes, waits-no}
-use Rattle.slots.proofs.Places.{edge-no-node}
-use Rattle.walks.proofs.Reaching.{Step, comes-reach}
-
--- the same edges by tables that were kept
-edge-kept : {ws : List ℕ} {t : ℕ} {w w′ : List ℕ} {i to j p x : ℕ} → length ws ≤ 4096 → Kept ws t w w′ → Edge ws w i to j p x → Edge ws w′ i to j p x
-edge-kept {ws} {x = x} few k d =
-    let b = d .behind in
-    let l : x < 4096 = omega (arith, b .below) in
-    record {
-      behind = b;
-      before = d .before;
-      target = k .slots x l ∙ d .target;
-      mask = rw (k .masks x l (edge-no-node ws x (b .edges x (b .after) (omega arith)))) (d .mask);
-    }
-
-kept-sym : {ws : List ℕ} {t : ℕ} {w w′ : List ℕ} → Kept ws t w w′ → Kept ws t w′ w
-kept-sym k =
-    record {
-      long = sym (k .long);
-      slots = λ x l. sym (k .slots x l);
-      masks = λ x l n. sym (k .masks x l n);
-      places = λ x l. sym (k .places x l);
-    }
-
--- steps lead from node words to slots
-pub step-inside : (ws : List ℕ) (t : ℕ) (w follow : List ℕ) → Laid ws t w → (i q j p : ℕ) → i < length ws → Step ws w follow i q j p → j < length ws
-step-inside ws t w follow laid i q j p l (b, (x, d), f) =
-    rw (← d .target) (laid .below x (d .behind .below) (d .behind .edges x (d .behind .after) (omega arith)))
-
-step-from : (ws w follow : List ℕ) (i q j p : ℕ) → Step ws w follow i q j p → nodeAt ws i ≡ true
-step-from ws w follow i q j p (b, (x, d), f) = d .behind .node
+use Rattle.walks.proofs.Reaching.{came-reach, comes-reach}
 
 -- ---- where it begins
 
-pub turn-start : (ws : List ℕ) (t : ℕ) (w follow : List ℕ) (top : ℕ) → Begun ws t w top
+pub turn-start : (ws : List ℕ) (t : ℕ) (w follow : List ℕ) (top : ℕ) → Begun ws t w top → Closed ws follow w
     → Searching (length ws) (Step ws w follow) (isReached w) (isReached w) (isPending ws w)
-turn-start ws t w follow top b =
-    search-start (length ws) (Step ws w follow) (isReached w) (isPending ws w)
-    (λ j q l h.
-    let n = and-left (nodeAt ws j) (hasState (pendingOf w j) q) h in
-    sym (b .ready j q l n) ∙ and-right (nodeAt ws j) (hasState (pendingOf w j) q) h)
-    (λ j q k p l h s.
-    let n = step-from ws w follow j q k p s in
-    and-intro (nodeAt ws j) (hasState (pendingOf w j) q) n (b .ready j q l n ∙ h))
+turn-start ws t w follow top b c = record { seeds = λ j q l m. m; sound = λ j q l m. seed (l, m); within = b .within; closed = c }
 
 -- ---- a turn
 
@@ -166,10 +130,16 @@ pub turn-end : (ws : List ℕ) (t : ℕ) (follow w₀ w : List ℕ) (top : ℕ) 
 turn-end ws t follow w₀ w top laid kept z st s =
     record {
       kept = kept;
-      exact = λ e cs table masks marks j q slot b.
+      exact = λ e cs table masks sought j q slot b.
           let i = search-end (length ws) (Step ws w₀ follow) (isReached w₀) (isReached w) (isPending ws w) (step-inside ws t w₀ follow laid) s none j q (slot .0) in
-          let k = comes-reach ws t w₀ laid follow e cs table masks marks j q slot b in
+          let k = comes-reach ws t w₀ laid follow e cs table masks sought j q slot b in
           (λ h. k .0 (i .0 h), λ h. i .1 (k .1 h));
+      begun = record { laid = laid-kept kept laid; within = s .within; stack = rw z at st };
+      closed = λ i q j p l r f x. s .closed i q j p l r f (step-kept follow (laid .roomy .few) (kept-sym kept) x);
+      sought = λ e cs table masks sought. record {
+        sound = λ j q l b h. came-reach ws t w₀ laid follow e cs table masks sought (s .sound j q l h) b;
+        complete = λ c m. let (j, l, n, q, h) = sought .complete c m in (j, l, n, q, s .seeds j (pairState c) l h);
+      };
     }
   where
     none : (j q : ℕ) → j < length ws → isPending ws w j q ≡ false

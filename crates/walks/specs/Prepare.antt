@@ -6,7 +6,7 @@ use Prim.Native.Nat.{ℕ, _<_}
 use lib.ListN.{length, getD}
 use Rattle.sets.specs.States.{hasState}
 use Rattle.files.specs.Field.{labelOf}
-use Rattle.paths.specs.Expr.{Expr}
+use Rattle.expressions.specs.Expr.{Expr}
 use Rattle.slots.specs.Slots.{edgeAt, reachedOf, pendingOf, maskOf, slotOf, placeOf, Laid}
 use Rattle.walks.specs.Search.{Masked, Blank, Begun}
 

@@ -8,9 +8,9 @@ use Rattle.sets.specs.Sets.{Mem, filter, any}
 use Rattle.sets.specs.Reach.{closure}
 use Rattle.files.specs.Field.{labelOf, targetOf, pair, pairNode, pairState}
 use Rattle.files.specs.Part.{edges, nodes}
-use Rattle.paths.specs.Expr.{Expr, count}
-use Rattle.paths.specs.Positions.{step, accepts}
-use Rattle.paths.specs.Labels.{holds}
+use Rattle.expressions.specs.Expr.{Expr, count}
+use Rattle.expressions.specs.Positions.{step, accepts}
+use Rattle.expressions.specs.Labels.{holds}
 
 -- A walk inside the part with the automaton beside it: from a node in a state to a node in a state, by zero or more edges, each from a node
 -- of the part, each stepping the state on its label. So all nodes before the last are nodes of the part.

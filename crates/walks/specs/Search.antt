@@ -1,7 +1,7 @@
 -- What the functions of a search do to its tables, and what a search finds.
 use mathlib.Core.Path.{_≡_}
 use mathlib.Core.Logic.{_⊎_, _↔_}
-use mathlib.Core.Bool.{true, not, _&&_, _||_}
+use mathlib.Core.Bool.{true, false, not, _&&_, _||_}
 use mathlib.Core.List.{List, _∷_}
 use Prim.Native.Nat.{ℕ, _≤_, _<_}
 use lib.Dec.{T, eqb}
@@ -11,9 +11,9 @@ use Rattle.sets.specs.Reach.{Reach}
 use Rattle.sets.specs.States.{hasState}
 use Rattle.sets.specs.Stack.{Stacked}
 use Rattle.files.specs.Field.{labelOf, pair, pairNode, pairState}
-use Rattle.paths.specs.Expr.{Expr, count}
-use Rattle.paths.specs.Positions.{next, labelWord}
-use Rattle.paths.specs.Labels.{holds}
+use Rattle.expressions.specs.Expr.{Expr, count}
+use Rattle.expressions.specs.Positions.{next, labelWord}
+use Rattle.expressions.specs.Labels.{holds}
 use Rattle.walks.specs.Product.{stepIn}
 use Rattle.slots.specs.Slots.{nodeAt, edgeAt, number, Behind, reachedOf, pendingOf, maskOf, slotOf, isReached, isPending, Laid, Kept, waitsIn, placeIn}
 
@@ -59,15 +59,29 @@ Waiting ws t w top = Stacked (length ws) (waitsIn ws w) (placeIn t w) top
 
 -- ---- for callers
 
--- the tables where a search may begin: what is reached is at nodes, and all of it is pending
+-- the tables where a search may begin or go on: what is pending is reached, and the nodes that wait stand on the stack
 pub record Begun (ws : List ℕ) (t : ℕ) (w : List ℕ) (top : ℕ) : Type 0 where
   pub laid : Laid ws t w
-  pub ready : (j q : ℕ) → j < length ws → nodeAt ws j ≡ true → hasState (pendingOf w j) q ≡ isReached w j q
+  pub within : (j q : ℕ) → j < length ws → isPending ws w j q ≡ true → isReached w j q ≡ true
   pub stack : Waiting ws t w top
+
+-- a step along the tables w: an edge word of the node at i leads to slot j and lets p be entered, and p may follow q
+abbrev pub Step : List ℕ → List ℕ → List ℕ → ℕ → ℕ → ℕ → ℕ → Type 0
+Step ws w follow i q j p = (q < 16) × ((x : ℕ) × Edge ws w i (length ws) j p x) × (hasState (getD follow q 0) p ≡ true)
+
+-- what is reached and no longer pending has all that it steps to reached
+abbrev pub Closed : List ℕ → List ℕ → List ℕ → Type 0
+Closed ws follow w =
+    (i q j p : ℕ) → i < length ws → isReached w i q ≡ true → isPending ws w i q ≡ false → Step ws w follow i q j p → isReached w j p ≡ true
 
 -- the pairs that are marked are those of cs
 pub record Marks (ws w cs : List ℕ) : Type 0 where
   pub sound : (j q : ℕ) → j < length ws → q < 16 → isReached w j q ≡ true → (nodeAt ws j ≡ true) × Mem (pair (number ws j) q) cs
+  pub complete : (c : ℕ) → Mem c cs → (j : ℕ) × (j < length ws) × (nodeAt ws j ≡ true) × (number ws j ≡ pairNode c) × (isReached w j (pairState c) ≡ true)
+
+-- what is reached is come to from the pairs of cs by the part's steps, and those pairs are reached
+pub record Sought (ws : List ℕ) (e : Expr) (w cs : List ℕ) : Type 0 where
+  pub sound : (j q : ℕ) → j < length ws → q < 16 → isReached w j q ≡ true → Reach (stepIn (drop 1 ws) e) cs (pair (number ws j) q)
   pub complete : (c : ℕ) → Mem c cs → (j : ℕ) × (j < length ws) × (nodeAt ws j ≡ true) × (number ws j ≡ pairNode c) × (isReached w j (pairState c) ≡ true)
 
 -- nothing is marked
@@ -92,7 +106,9 @@ pub record Fresh (ws : List ℕ) (t : ℕ) (w w′ : List ℕ) : Type 0 where
 pub record Seeded (ws : List ℕ) (t : ℕ) (w w′ : List ℕ) (i q top : ℕ) : Type 0 where
   pub kept : Kept ws t w w′
   pub begun : Begun ws t w′ top
+  pub closed : (follow : List ℕ) → Closed ws follow w → Closed ws follow w′
   pub marks : (cs : List ℕ) → Marks ws w cs → Marks ws w′ (pair (number ws i) q ∷ cs)
+  pub sought : (e : Expr) (cs : List ℕ) → Sought ws e w cs → Sought ws e w′ (pair (number ws i) q ∷ cs)
 
 -- row q of the table has what may come next in state q of the expression, which has at most 15 letters
 pub record Follow (e : Expr) (follow : List ℕ) : Type 0 where
@@ -109,8 +125,12 @@ Masked ws e w =
 abbrev pub Slot : List ℕ → List ℕ → ℕ → Type 0
 Slot ws w j = (j < length ws) × ((nodeAt ws j ≡ true) ⊎ (slotOf w j ≡ j) × (edgeAt ws j ≡ true))
 
--- a slot is reached in just the states that a walk inside the part leads to from a marked pair
+-- a slot is reached in just the states that a walk inside the part leads to from a pair that was sought from; and another search may begin
+-- where this one ended
 pub record Searched (ws : List ℕ) (t : ℕ) (follow w w′ : List ℕ) : Type 0 where
   pub kept : Kept ws t w w′
-  pub exact : (e : Expr) (cs : List ℕ) → Follow e follow → Masked ws e w → Marks ws w cs → (j q : ℕ) → Slot ws w j → q < 16
+  pub exact : (e : Expr) (cs : List ℕ) → Follow e follow → Masked ws e w → Sought ws e w cs → (j q : ℕ) → Slot ws w j → q < 16
       → (isReached w′ j q ≡ true) ↔ Reach (stepIn (drop 1 ws) e) cs (pair (number ws j) q)
+  pub begun : Begun ws t w′ 0
+  pub closed : Closed ws follow w′
+  pub sought : (e : Expr) (cs : List ℕ) → Follow e follow → Masked ws e w → Sought ws e w cs → Sought ws e w′ cs

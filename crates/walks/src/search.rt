@@ -6,7 +6,7 @@ ghost use Prim.Native.Nat.{_+_, _<_, _≤_};
 ghost use lib.ListN.{length};
 ghost use Rattle.files.specs.Word.{words};
 ghost use Rattle.slots.specs.Slots.{nodeAt, Roomy, Laid};
-ghost use Rattle.walks.specs.Search.{Waits, Entered, Walked, Hit, Waiting, Begun, Forgot, Fresh, Seeded, Searched};
+ghost use Rattle.walks.specs.Search.{Waits, Entered, Walked, Hit, Waiting, Begun, Closed, Forgot, Fresh, Seeded, Searched};
 use sets::follow::follow_all;
 use sets::states::with;
 use sets::table::get16;
@@ -74,9 +74,10 @@ fn walk(part: &[u8], work: &mut [u8], outside: usize, i: usize, u: u16, height: 
     top
 }
 
-// Searches from the marked pairs, of which `height` nodes stand on the stack, until no node waits. `follow[q]` has what may follow q.
+// Searches from the marked pairs, of which `height` nodes stand on the stack, until no node waits. What an earlier search reached is not
+// entered again. `follow[q]` has what may follow q.
 pub fn run(part: &[u8], follow: [u16; 16], work: &mut [u8], outside: usize, height: usize)
-    requires { ⌜ Begun (words (now part)) outside (now work) height ⌝ }
+    requires { ⌜ Begun (words (now part)) outside (now work) height × Closed (words (now part)) follow (now work) ⌝ }
     ensures { λ _. ⌜ Searched (words (now (part .entry))) outside follow (now (work .entry)) (now (work .exit)) ⌝ }
 {
     let mut top = height;

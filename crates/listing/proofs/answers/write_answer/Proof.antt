@@ -5,10 +5,10 @@ use Rattle.listing.proofs.answers.write_answer.Statement.{statement}
 use Rattle.listing.proofs.answers.write_answer.Tie as tie
 
 returns : tie.Need-returns
-returns c ws r = search (answer-some, needs)
+returns c = search (answer-some, needs)
 
 returns-2 : tie.Need-returns-2
-returns-2 c ws r = search (answer-none, needs)
+returns-2 c = search (answer-none, needs)
 
 pub write-answer-spec : {M : Type 1} → statement M
 write-answer-spec =

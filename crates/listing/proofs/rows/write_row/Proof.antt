@@ -1,17 +1,15 @@
 -- `listing::rows::write_row` meets its contract. Assumes nothing.
 use borrow.Author.Needs.{needs}
 use Rattle.files.specs.Word.{words}
-use Rattle.listing.proofs.Rowing.{row-none-is, row-some-is}
+use Rattle.listing.specs.Rows.{pairsUpTo}
+use Rattle.listing.proofs.Rowing.{row-is}
 use Rattle.listing.proofs.rows.write_row.Statement.{statement}
 use Rattle.listing.proofs.rows.write_row.Tie as tie
 
 returns : tie.Need-returns
-returns c = search (row-none-is, needs)
-
-returns-2 : tie.Need-returns-2
-returns-2 c =
-    let a = c .before .before .before .before .before .before .before .before .before .before .before .before .before .before .args in
-    row-some-is (a .q) (c .before .before .before .before .before .before .before .before .row-word .result) (words (a .part .now)) (a .work .now) (a .t) (c .before .before .before .before .before .before .before .before .before .if1 .left) (c .before .before .before .before .before .before .before .before .before .before .row-length .ensures)
+returns c =
+    let a = c .before .before .before .before .before .before .before .before .before .before .before .before .args in
+    row-is (a .q) (c .before .before .before .before .before .before .before .before .row-word .result) (pairsUpTo (words (a .part .now)) (a .work .now) (a .t))
     (c .before .before .before .before .before .before .before .before .row-word .ensures) (search needs) (c .before .before .before .before .before .before .push .ensures) (c .before .before .write-targets .ensures)
 
 pub write-row-spec : {M : Type 1} → statement M
@@ -19,9 +17,7 @@ write-row-spec =
     tie.close
     (tie.spec
     (λ c κs. search needs)
-    returns
-    (λ c κs. search needs)
     (λ c κs. search needs)
     (λ c κs. search needs)
     (λ c. search needs)
-    returns-2)
+    returns)

@@ -13,8 +13,8 @@ number-at-requires c κs = search needs
 states-at-requires : tie.Need-states-at-requires
 states-at-requires c κs = search needs
 
-write-states-requires : tie.Need-write-states-requires
-write-states-requires c κs = search (number-small, needs)
+write-pairs-requires : tie.Need-write-pairs-requires
+write-pairs-requires c κs = search (number-small, needs)
 
 same-length : tie.Need-same-length
 same-length c = search needs
@@ -29,6 +29,6 @@ write-target-spec =
     place-at-requires
     number-at-requires
     states-at-requires
-    write-states-requires
+    write-pairs-requires
     same-length
     returns)

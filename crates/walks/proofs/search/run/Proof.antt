@@ -7,10 +7,9 @@ use lib.ListN.{length}
 use Rattle.files.specs.Word.{words}
 use Rattle.sets.proofs.Searches.{Searching, Turned, openIn}
 use Rattle.slots.specs.Slots.{Kept, isReached, isPending}
-use Rattle.walks.specs.Search.{Waiting}
+use Rattle.walks.specs.Search.{Waiting, Step}
 use Rattle.walks.proofs.Storing.{kept-refl, kept-trans, roomy-kept, laid-kept}
 use Rattle.walks.proofs.Entering.{waiting-room}
-use Rattle.walks.proofs.Reaching.{Step}
 use Rattle.walks.proofs.Turning.{turn-start, top-below, pop-node, pop-kept, pop-stack, turned, turn-end}
 use Rattle.walks.proofs.search.run.Statement.{statement}
 use Rattle.walks.proofs.search.run.Tie as tie
@@ -35,7 +34,7 @@ room : (t : tie.In-loop Inv-loop μ-loop)
 room t =
     let h = t .before in
     let a = start h in
-    let r = roomy-kept (h .loop .inv .0) (a .pre .laid .roomy) in
+    let r = roomy-kept (h .loop .inv .0) (a .pre .0 .laid .roomy) in
     (r .few, r .long, waiting-room _ _ _ _ r (h .loop .inv .2), omega (arith, t .loop-test .taken))
 
 -- the node on top is one of the part's words
@@ -49,7 +48,7 @@ below g =
 loop-holds : tie.Need-loop-holds Inv-loop μ-loop
 loop-holds c =
     let a = c .before .before in
-    (kept-refl (words (a .args .part .now)) (a .args .outside) (a .args .work .now), turn-start (words (a .args .part .now)) (a .args .outside) (a .args .work .now) (a .args .follow) (a .args .height) (a .pre), a .pre .stack)
+    (kept-refl (words (a .args .part .now)) (a .args .outside) (a .args .work .now), turn-start (words (a .args .part .now)) (a .args .outside) (a .args .work .now) (a .args .follow) (a .args .height) (a .pre .0) (a .pre .1), a .pre .0 .stack)
 
 walk-requires : tie.Need-walk-requires Inv-loop μ-loop
 walk-requires c κs =
@@ -59,15 +58,15 @@ walk-requires c κs =
     let h = t .before in
     let a = start h in
     let ws = words (a .args .part .now) in
-    let k = pop-kept ws (a .args .outside) (a .args .follow) (a .args .work .now) (h .loop .work) (p .put16 .last .0) (h .loop .top) (g .get16 .result) (a .pre .laid)
+    let k = pop-kept ws (a .args .outside) (a .args .follow) (a .args .work .now) (h .loop .work) (p .put16 .last .0) (h .loop .top) (g .get16 .result) (a .pre .0 .laid)
     (h .loop .inv .0) (room t .3) (h .loop .inv .2) (g .get16 .ensures) (p .put16 .ensures) in (
       (
-        laid-kept k (a .pre .laid),
+        laid-kept k (a .pre .0 .laid),
         below g,
-        pop-node ws (a .args .outside) (a .args .follow) (a .args .work .now) (h .loop .work) (p .put16 .last .0) (h .loop .top) (g .get16 .result) (a .pre .laid)
+        pop-node ws (a .args .outside) (a .args .follow) (a .args .work .now) (h .loop .work) (p .put16 .last .0) (h .loop .top) (g .get16 .result) (a .pre .0 .laid)
             (h .loop .inv .0) (room t .3) (h .loop .inv .2) (g .get16 .ensures) (p .put16 .ensures),
       ),
-      pop-stack ws (a .args .outside) (a .args .follow) (a .args .work .now) (h .loop .work) (p .put16 .last .0) (h .loop .top) (g .get16 .result) (a .pre .laid)
+      pop-stack ws (a .args .outside) (a .args .follow) (a .args .work .now) (h .loop .work) (p .put16 .last .0) (h .loop .top) (g .get16 .result) (a .pre .0 .laid)
           (h .loop .inv .0) (room t .3) (h .loop .inv .2) (g .get16 .ensures) (p .put16 .ensures),
     )
 
@@ -90,10 +89,10 @@ turn c =
     let h = t .before in
     let a = start h in
     let ws = words (a .args .part .now) in
-    let kept = pop-kept ws (a .args .outside) (a .args .follow) (a .args .work .now) (h .loop .work) (p .put16 .last .0) (h .loop .top) (g .get16 .result) (a .pre .laid)
+    let kept = pop-kept ws (a .args .outside) (a .args .follow) (a .args .work .now) (h .loop .work) (p .put16 .last .0) (h .loop .top) (g .get16 .result) (a .pre .0 .laid)
     (h .loop .inv .0) (room t .3) (h .loop .inv .2) (g .get16 .ensures) (p .put16 .ensures) in (
       kept-trans kept (x .walk .ensures .0 .grown .kept),
-      turned ws (a .args .outside) (a .args .follow) (a .args .work .now) (h .loop .work) (p .put16 .last .0) (h .loop .top) (g .get16 .result) (a .pre .laid)
+      turned ws (a .args .outside) (a .args .follow) (a .args .work .now) (h .loop .work) (p .put16 .last .0) (h .loop .top) (g .get16 .result) (a .pre .0 .laid)
           (h .loop .inv .0) (room t .3) (h .loop .inv .2) (g .get16 .ensures) (p .put16 .ensures)
           (x .walk .last .1 .0) (k .get162 .result) (f .follow-all .result) (k .get162 .ensures) (omega (arith, k .get162 .ok)) (f .follow-all .ensures) (x .walk .ensures .0) (h .loop .inv .1),
     )
@@ -102,7 +101,7 @@ returns : tie.Need-returns Inv-loop μ-loop
 returns c =
     let h = c .before in
     let a = start h in
-    turn-end (words (a .args .part .now)) (a .args .outside) (a .args .follow) (a .args .work .now) (h .loop .work) (h .loop .top) (a .pre .laid) (h .loop .inv .0)
+    turn-end (words (a .args .part .now)) (a .args .outside) (a .args .follow) (a .args .work .now) (h .loop .work) (h .loop .top) (a .pre .0 .laid) (h .loop .inv .0)
     (c .loop-test .left) (h .loop .inv .2) (h .loop .inv .1)
 
 pub run-spec : {M : Type 1} → statement M

@@ -1,0 +1,8 @@
+//! Better algorithms where one is known: what there is to be gained. Checks, automaton and buffers are those of the plain versions.
+mod call_list;
+mod first_reply;
+mod graph;
+
+pub use call_list::call_list;
+pub use first_reply::first_reply;
+pub use graph::{old_search, second_reply};

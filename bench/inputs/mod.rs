@@ -1,0 +1,118 @@
+//! Heavy valid inputs of each call, of about a given number of words.
+mod bundles;
+mod parts;
+mod paths;
+
+use crate::words::bytes;
+use parts::Doors;
+
+/// What a call is asked: a part, a whole or a bundle, and whatever else the call takes.
+#[derive(Clone, Default)]
+pub struct Ask {
+    pub file: Vec<u8>,
+    pub path: Vec<u8>,
+    pub cuts: Vec<u8>,
+    pub site: u32,
+    pub calls: Vec<u8>,
+}
+
+pub struct Shape {
+    pub name: &'static str,
+    pub make: fn(usize) -> Ask,
+}
+
+fn shape(name: &'static str, make: fn(usize) -> Ask) -> Shape {
+    Shape { name, make }
+}
+
+/// Numbers drawn by document 01's step.
+pub struct Draws(pub u32);
+
+impl Draws {
+    pub fn below(&mut self, n: u32) -> u32 {
+        self.0 = self.0.wrapping_mul(1_664_525).wrapping_add(1_013_904_223);
+        (self.0 >> 16) * n >> 16
+    }
+}
+
+fn search(part: Vec<u32>, path: Vec<u32>) -> Ask {
+    Ask { file: bytes(&part), path: bytes(&path), ..Ask::default() }
+}
+
+pub fn old_search() -> Vec<Shape> {
+    vec![
+        shape("three random links", |n| search(parts::random(n, 3, Doors::Root), paths::half_ranges())),
+        shape("three random links, fifteen turns", |n| search(parts::random(n, 3, Doors::Root), paths::turns())),
+        shape("states one by one", |n| search(parts::one_by_one(n, Doors::Root), paths::one_by_one())),
+        shape("dense", |n| search(parts::dense(n, Doors::Root), paths::half_ranges())),
+        shape("chain", |n| search(parts::chain(n, Doors::Root), paths::full_ranges())),
+    ]
+}
+
+fn cutting(whole: Vec<u32>, sites: u32) -> Ask {
+    let (nodes, mut draws) = (parts::nodes(&whole).len(), Draws(7));
+    let cuts = (0..nodes).map(|_| draws.below(sites) as u8).collect();
+    Ask { file: bytes(&whole), cuts, site: 0, ..Ask::default() }
+}
+
+pub fn cut() -> Vec<Shape> {
+    vec![
+        shape("three random links, 16 sites", |n| cutting(parts::random(n, 3, Doors::Root), 16)),
+        shape("three random links, 2 sites", |n| cutting(parts::random(n, 3, Doors::Root), 2)),
+        shape("chain, 1 site", |n| cutting(parts::chain(n, Doors::Root), 1)),
+        shape("no link, 2 sites", |n| cutting(parts::bare(n, Doors::Root), 2)),
+    ]
+}
+
+pub fn first_reply() -> Vec<Shape> {
+    vec![
+        shape("states one by one, all doors, nothing outside", |n| search(parts::one_by_one(n, Doors::All), paths::one_by_one())),
+        shape("states one by one, one pair outside, 15 rows a door", |n| search(parts::leaving(n), paths::one_by_one())),
+        shape("two random links, fifteen turns, all doors", |n| search(parts::random(n, 2, Doors::All), paths::turns())),
+        shape("no link, all doors", |n| search(parts::bare(n, Doors::All), paths::full_ranges())),
+        shape("one link outside a door, a row each", |n| search(parts::doorways(n), paths::any_label())),
+        shape("one door, targets outside descending", |n| search(parts::outward(n), paths::last_label())),
+    ]
+}
+
+pub fn call_list() -> Vec<Shape> {
+    vec![
+        shape("reach words to the last doors", |n| bundle(bundles::to_the_last(n))),
+        shape("chain to the door before", |n| bundle(bundles::chain_back(n))),
+        shape("pairs one by one", |n| bundle(bundles::pairs_back(n))),
+        shape("16 files at random", |n| bundle(bundles::random(n))),
+    ]
+}
+
+fn bundle(file: Vec<u32>) -> Ask {
+    Ask { file: bytes(&file), ..Ask::default() }
+}
+
+fn called(part: Vec<u32>, path: Vec<u32>, calls: Vec<u32>) -> Ask {
+    Ask { calls: bytes(&calls), ..search(part, path) }
+}
+
+pub fn second_reply() -> Vec<Shape> {
+    vec![
+        shape("targets outside descending", |n| called(parts::outward(n), paths::last_label(), parts::calls(&[0], 15, n))),
+        shape("three random links, all called", |n| {
+            let part = parts::random(n, 3, Doors::All);
+            let calls = parts::calls(&parts::nodes(&part), 15, n);
+            called(part, paths::half_ranges(), calls)
+        }),
+        shape("states one by one", |n| called(parts::one_by_one(n, Doors::All), paths::one_by_one(), parts::call_of(0, 2))),
+        shape("no link, calls elsewhere", |n| {
+            let part = parts::bare(n, Doors::All);
+            let odd: Vec<u32> = parts::nodes(&part).iter().map(|x| x + 1).collect();
+            called(part, paths::full_ranges(), parts::calls(&odd, 15, n))
+        }),
+    ]
+}
+
+pub fn join() -> Vec<Shape> {
+    vec![
+        shape("16 files by turns", |n| bundle(bundles::answers(n, 16, 1))),
+        shape("16 files, far apart", |n| bundle(bundles::answers(n, 16, 8))),
+        shape("two files", |n| bundle(bundles::answers(n, 2, 1))),
+    ]
+}

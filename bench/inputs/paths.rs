@@ -1,0 +1,68 @@
+//! Paths of fifteen labels.
+use super::Draws;
+use crate::words::*;
+
+fn seal(mut ws: Vec<u32>) -> Vec<u32> {
+    let n = ws.iter().filter(|&&w| kind(w) == 5).count() as u32;
+    ws[0] = header(4, 0, n) | ws.len() as u32;
+    ws
+}
+
+fn star_of_or(labels: impl Iterator<Item = u32>) -> Vec<u32> {
+    let mut ws = vec![0];
+    for (i, w) in labels.enumerate() {
+        ws.push(w);
+        if i > 0 {
+            ws.push(OR);
+        }
+    }
+    ws.push(STAR);
+    seal(ws)
+}
+
+/// An or of fifteen ranges, of which only the first holds label 0: no star, so that only state 0 has a row.
+pub fn any_label() -> Vec<u32> {
+    let mut ws = star_of_or((0..15).map(|k| range(k, 4095)));
+    ws.pop();
+    seal(ws)
+}
+
+/// A star of an or of fifteen full ranges.
+pub fn full_ranges() -> Vec<u32> {
+    star_of_or((0..15).map(|_| range(0, 4095)))
+}
+
+/// A star of fifteen full ranges one after another: a walk is in one state at a time.
+pub fn turns() -> Vec<u32> {
+    let mut ws = full_ranges();
+    ws.iter_mut().filter(|w| **w == OR).for_each(|w| *w = THEN);
+    ws
+}
+
+/// A star of an or of fifteen ranges of half the labels.
+pub fn half_ranges() -> Vec<u32> {
+    let mut draws = Draws(7);
+    star_of_or((0..15).map(|_| {
+        let low = draws.below(2048);
+        range(low, low + 2047)
+    }))
+}
+
+/// A star of an or of fifteen times the one label that no link of `parts::outward` has.
+pub fn last_label() -> Vec<u32> {
+    star_of_or((0..15).map(|_| range(4095, 4095)))
+}
+
+/// (x then (p1* or .. or p14*))*: x reads 1, and p_k reads 100 to 200 + k. A state of 2 to 15 keeps to itself on 150 and becomes 1 on 1;
+/// from state 1 the label 200 + k enters the states of p_k to p_14.
+pub fn one_by_one() -> Vec<u32> {
+    let mut ws = vec![0, range(1, 1)];
+    for k in 1..=14 {
+        ws.extend([range(100, 200 + k), STAR]);
+        if k > 1 {
+            ws.push(OR);
+        }
+    }
+    ws.extend([THEN, STAR]);
+    seal(ws)
+}

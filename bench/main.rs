@@ -1,0 +1,49 @@
+//! The six calls of the library beside plain Rust versions of the same algorithms, and beside better ones where such are known.
+mod best;
+mod climb;
+mod inputs;
+mod library;
+mod plain;
+mod table;
+mod timing;
+mod words;
+
+use table::Call;
+
+fn calls() -> Vec<Call> {
+    use best as b;
+    use library as l;
+    use plain as p;
+    let call = |name, limit, shapes, versions| Call { name, limit, shapes, versions };
+    vec![
+        call("old search", 4096, inputs::old_search(), vec![l::old_search, p::old_search, b::old_search]),
+        call("cutter", 4096, inputs::cut(), vec![l::cut, p::cut]),
+        call("first reply", 4096, inputs::first_reply(), vec![l::first_reply, p::first_reply, b::first_reply]),
+        call("call list", 8192, inputs::call_list(), vec![l::call_list, p::call_list, b::call_list]),
+        call("second reply", 4096, inputs::second_reply(), vec![l::second_reply, p::second_reply, b::second_reply]),
+        call("join", 8192, inputs::join(), vec![l::join, p::join]),
+    ]
+}
+
+/// From every shape of the calls whose cost hangs on more than the number of words. First replies are dear, so small parts give more tries.
+fn search(seconds: f64) {
+    for call in calls() {
+        let size = if call.name == "first reply" { 256 } else { 2048 };
+        for shape in &call.shapes {
+            let (name, start, library) = (format!("{}, {}", call.name, shape.name), (shape.make)(size), call.versions[0]);
+            match call.name {
+                "call list" => climb::climb::<climb::Bundle>(&name, library, &start, seconds),
+                "cutter" | "join" => {}
+                _ => climb::climb::<climb::Plant>(&name, library, &start, seconds),
+            }
+        }
+    }
+}
+
+fn main() {
+    let words: Vec<String> = std::env::args().skip(1).collect();
+    match words.first().map(String::as_str) {
+        Some("search") => search(words.get(1).and_then(|w| w.parse().ok()).unwrap_or(5.0)),
+        _ => table::print(&calls()),
+    }
+}

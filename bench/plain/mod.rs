@@ -1,0 +1,24 @@
+//! Each call as a Rust programmer would write it over vectors: the library's algorithm and the whole of its contract, all checks included.
+mod automaton;
+mod bundle;
+mod call_list;
+mod cut;
+mod files;
+mod first_reply;
+mod join;
+mod old_search;
+mod part;
+mod search;
+mod second_reply;
+
+pub use automaton::{path, Automaton};
+pub use bundle::first_bundle_but_14;
+pub use call_list::call_list;
+pub use cut::cut;
+pub use files::{settle, Outcome};
+pub use first_reply::{door_words, first_reply};
+pub use join::join;
+pub use old_search::{final_list, old_search};
+pub use part::{part, whole};
+pub use search::{Edge, Graph};
+pub use second_reply::{second_reply, second_reply_by};

@@ -1,0 +1,24 @@
+//! The old search.
+use super::automaton::{path, Automaton};
+use super::files::{settle, Outcome};
+use super::part::whole;
+use super::search::{Graph, Search};
+use super::second_reply::answers;
+use crate::inputs::Ask;
+use crate::words::*;
+
+pub fn final_list(graph: &Graph, a: &Automaton) -> Outcome {
+    let mut search = Search::new(graph, a);
+    let root = graph.nodes.iter().position(|w| w & ROOT != 0).unwrap_or(0);
+    search.enter(root, 1);
+    search.run();
+    Ok(answers(&search, a.accepts, header(15, 0, 0)))
+}
+
+pub fn old_search(ask: &Ask, out: &mut [u8], work: &mut [u8]) -> u32 {
+    settle(8192, out, work, || {
+        let ws = whole(&ask.file)?;
+        let a = path(&ask.path)?;
+        final_list(&Graph::new(&ws, &a), &a)
+    })
+}

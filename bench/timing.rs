@@ -1,0 +1,129 @@
+//! Versions of a call on the same inputs: their answers are compared, then they are timed by turns.
+use crate::inputs::Ask;
+
+pub type Version = fn(&Ask, &mut [u8], &mut [u8]) -> u32;
+
+/// The seconds that are spent on one input in all rounds, but for calls that take longer.
+const BUDGET: f64 = 0.1;
+const ROUNDS: usize = 21;
+/// Longer calls have fewer rounds, and very long ones only that in which they are compared.
+const FEWEST: usize = 3;
+const LONG: f64 = 1.0;
+
+#[repr(C)]
+struct Timespec {
+    seconds: i64,
+    nanoseconds: i64,
+}
+
+extern "C" {
+    fn clock_gettime(clock: i32, time: *mut Timespec) -> i32;
+}
+
+const THREAD_CPU_TIME: i32 = 3;
+
+/// The processor's seconds that this thread has had: what others run at the same time does not count.
+pub fn now() -> f64 {
+    let mut time = Timespec { seconds: 0, nanoseconds: 0 };
+    assert_eq!(unsafe { clock_gettime(THREAD_CPU_TIME, &mut time) }, 0);
+    time.seconds as f64 + time.nanoseconds as f64 * 1e-9
+}
+
+pub struct Buffers {
+    out: Vec<u8>,
+    work: Vec<u8>,
+}
+
+impl Buffers {
+    pub fn new() -> Buffers {
+        Buffers { out: vec![0x55; 32_768], work: vec![0x55; 32_768] }
+    }
+
+    /// The seconds of one call, and its number.
+    pub fn once(&mut self, version: Version, ask: &Ask) -> (f64, u32) {
+        let start = now();
+        let number = version(ask, &mut self.out, &mut self.work);
+        (now() - start, number)
+    }
+}
+
+/// The seconds of each version of a call in each round.
+struct Rounds(Vec<Vec<f64>>);
+
+pub struct Measured {
+    /// The least seconds of each version.
+    pub least: Vec<f64>,
+    /// The first version's time over each one's, the median of the rounds: in one round all meet the same load.
+    pub ratios: Vec<f64>,
+}
+
+impl Rounds {
+    fn ratio(&self, version: usize) -> f64 {
+        let mut ratios: Vec<f64> = self.0.iter().map(|round| round[0] / round[version]).collect();
+        ratios.sort_by(f64::total_cmp);
+        ratios[ratios.len() / 2]
+    }
+
+    fn measured(&self) -> Measured {
+        let versions = self.0[0].len();
+        let least = |v: usize| self.0.iter().map(|round| round[v]).fold(f64::MAX, f64::min);
+        Measured { least: (0..versions).map(least).collect(), ratios: (0..versions).map(|v| self.ratio(v)).collect() }
+    }
+}
+
+/// All versions must leave the same number and the same bytes; the input must be accepted. Gives the seconds of each.
+fn compare(versions: &[Version], ask: &Ask, name: &str) -> Vec<f64> {
+    let mut first = Buffers::new();
+    let (time, number) = first.once(versions[0], ask);
+    assert_eq!(number, 0, "{name}: refused");
+    let mut times = vec![time];
+    for &version in &versions[1..] {
+        let mut other = Buffers::new();
+        let (time, number) = other.once(version, ask);
+        assert!(number == 0 && other.out == first.out && other.work == first.work, "{name}: two versions differ");
+        times.push(time);
+    }
+    times
+}
+
+/// The seconds of each version, one after another; quick ones are repeated to fill their share of a round.
+fn round(versions: &[Version], ask: &Ask, about: &[f64], buffers: &mut Buffers) -> Vec<f64> {
+    let share = BUDGET / (ROUNDS * versions.len()) as f64;
+    let time = |(&version, about): (&Version, &f64)| {
+        let repeats = ((share / about) as usize).max(1);
+        let start = now();
+        for _ in 0..repeats {
+            version(ask, &mut buffers.out, &mut buffers.work);
+        }
+        (now() - start) / repeats as f64
+    };
+    versions.iter().zip(about).map(time).collect()
+}
+
+/// How many rounds calls have of which one takes so many seconds in all versions.
+fn rounds_of(seconds: f64) -> usize {
+    if seconds > LONG {
+        return 0;
+    }
+    ((BUDGET / seconds) as usize).clamp(FEWEST, ROUNDS)
+}
+
+/// Measures the versions on each input. The rounds go over all inputs, so that a slow moment does not fall on one of them alone.
+pub fn measure(versions: &[Version], asks: &[Ask], name: &str) -> Vec<Measured> {
+    let first: Vec<Vec<f64>> = asks.iter().map(|ask| compare(versions, ask, name)).collect();
+    let mut rounds: Vec<Rounds> = asks.iter().map(|_| Rounds(Vec::new())).collect();
+    let mut buffers = Buffers::new();
+    for r in 0..ROUNDS {
+        for (i, ask) in asks.iter().enumerate() {
+            if r < rounds_of(first[i].iter().sum()) {
+                rounds[i].0.push(round(versions, ask, &first[i], &mut buffers));
+            }
+        }
+    }
+    for (rounds, first) in rounds.iter_mut().zip(first) {
+        if rounds.0.is_empty() {
+            rounds.0.push(first);
+        }
+    }
+    rounds.iter().map(Rounds::measured).collect()
+}

@@ -1,0 +1,5 @@
+pub mod Ranges
+pub mod Glushkov
+pub mod Postfix
+pub mod Paths
+pub mod Examples

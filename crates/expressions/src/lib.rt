@@ -1,0 +1,1 @@
+// Regular expressions over labels, their textbook meaning and their position automata: definitions and theorems. Nothing here runs.

@@ -1,9 +1,0 @@
-pub mod CallLists
-pub mod Joining
-pub mod Writing
-pub mod Answering
-pub mod Growing
-pub mod RowScans
-pub mod Turning
-pub mod Listing
-pub mod Calling

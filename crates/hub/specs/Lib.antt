@@ -1,4 +1,0 @@
-pub mod CallList
-pub mod Search
-pub mod Join
-pub mod Write

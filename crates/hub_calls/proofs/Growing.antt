@@ -1,0 +1,200 @@
+-- Laws of entered pairs: one pair, some and then others, none left; and a pair entered at its node's door. Assumes nothing.
+use mathlib.Core.Path.{_≡_, refl, sym, ap, subst, _∙_}
+use mathlib.Core.Logic.{_⊎_, inl, inr, ⊎-elim}
+use mathlib.Core.Bool.{Bool, true, false, not, _&&_, _||_, or-false, and-true}
+use mathlib.Core.List.{List}
+use Prim.Native.Nat.{ℕ, _+_, _/_, _%_, _≤_, _<_}
+use native.Mathlib.Omega.{arith}
+use borrow.Author.Count.{below-more}
+use borrow.Author.Tests.{eqb-true, eq-eqb}
+use lib.Dec.{eqb}
+use lib.ListN.{length, getD}
+use Rattle.sets.specs.States.{hasState}
+use Rattle.sets.specs.Table.{half, putHalf}
+use Rattle.sets.proofs.Cases.{eq-or-ne, ne-cases, or-elim, clash}
+use Rattle.sets.proofs.Tables.{length-put, half-same, half-other, half-apart}
+use Rattle.sets.proofs.StateSets.{has-empty}
+use Rattle.files.specs.Word.{words}
+use Rattle.files.proofs.Words.{words-length}
+use Rattle.hub_calls.specs.Search.{isDoorOf, Sought, Found, DoorAt, reachedAt, pendingAt, Growing, Grown, Placed}
+
+-- what was entered, with what is entered after
+fresh-then : (r r′ r″ p p′ p″ : Bool) → (r ≡ true → r′ ≡ true) → (r′ ≡ true → r″ ≡ true) → p′ ≡ (p || (r′ && not r)) → p″ ≡ (p′ || (r″ && not r′))
+    → p″ ≡ (p || (r″ && not r))
+fresh-then true true true p p′ p″ h k e f = f ∙ rw (e, or-false, or-false)
+fresh-then true true false p p′ p″ h k e f = absurd (clash (k refl) refl)
+fresh-then true false r″ p p′ p″ h k e f = absurd (clash (h refl) refl)
+fresh-then false true true true p′ p″ h k e f = f ∙ rw e
+fresh-then false true true false p′ p″ h k e f = f ∙ rw e
+fresh-then false true false p p′ p″ h k e f = absurd (clash (k refl) refl)
+fresh-then false false true p p′ p″ h k e f = f ∙ rw (e, or-false)
+fresh-then false false false p p′ p″ h k e f = f ∙ rw (e, or-false, or-false)
+
+fresh-none : (r p : Bool) → p ≡ (p || (r && not r))
+fresh-none true p = rw or-false
+fresh-none false p = rw or-false
+
+module _ {E L : ℕ → ℕ → Type 0} where
+  -- nothing is entered yet
+  pub growing-first : {w : List ℕ} → ((j q : ℕ) → j < 8192 → E j q → L j q) → Growing E L w w
+  growing-first {w} h = record {
+    kept = λ j q l m. m;
+    fresh = λ j q l. fresh-none (reachedAt w j q) (pendingAt w j q);
+    only = λ j q l m. inl m;
+    all = λ j q l e. inr (h j q l e);
+    same = refl;
+  }
+
+  -- some more are entered
+  pub growing-more : {F L′ : ℕ → ℕ → Type 0} {w w′ w″ : List ℕ} → Growing E L w w′ → Grown F w′ w″
+      → ((j q : ℕ) → j < 8192 → F j q → E j q) → ((j q : ℕ) → j < 8192 → L j q → F j q ⊎ L′ j q) → Growing E L′ w w″
+  growing-more {w = w} {w′ = w′} {w″ = w″} f g h k = record {
+    kept = λ j q l m. g .kept j q l (f .kept j q l m);
+    fresh = λ j q l. fresh-then (reachedAt w j q) (reachedAt w′ j q) (reachedAt w″ j q) (pendingAt w j q) (pendingAt w′ j q) (pendingAt w″ j q)
+        (f .kept j q l) (g .kept j q l) (f .fresh j q l) (g .fresh j q l);
+    only = λ j q l m. ⊎-elim (λ a. f .only j q l a) (λ a. inr (h j q l a)) (g .only j q l m);
+    all = λ j q l e. ⊎-elim (λ a. inl (g .kept j q l a)) (λ a. ⊎-elim (λ b. ⊎-elim (λ c. inl c) (λ c. absurd c) (g .all j q l b)) (λ b. inr b) (k j q l a)) (f .all j q l e);
+    same = g .same ∙ f .same;
+  }
+
+  -- what is left is something else
+  pub growing-left : {L′ : ℕ → ℕ → Type 0} {w w′ : List ℕ} → Growing E L w w′ → ((j q : ℕ) → j < 8192 → L j q → L′ j q) → Growing E L′ w w′
+  growing-left f k = record {
+    kept = f .kept;
+    fresh = f .fresh;
+    only = f .only;
+    all = λ j q l e. ⊎-elim (λ a. inl a) (λ a. inr (k j q l a)) (f .all j q l e);
+    same = f .same;
+  }
+
+-- the same pairs in other words
+pub grown-iff : {E E′ : ℕ → ℕ → Type 0} {w w′ : List ℕ} → Grown E w w′ → ((j q : ℕ) → E j q → E′ j q) → ((j q : ℕ) → E′ j q → E j q) → Grown E′ w w′
+grown-iff f h k = record {
+  kept = f .kept;
+  fresh = f .fresh;
+  only = λ j q l m. ⊎-elim (λ a. inl a) (λ a. inr (h j q a)) (f .only j q l m);
+  all = λ j q l e. f .all j q l (k j q e);
+  same = f .same;
+}
+
+-- One pair
+
+-- it is there
+pub enter-known : (w : List ℕ) {j q r : ℕ} {b : Bool} → r ≡ half w 0 j → b ≡ hasState r q → b ≡ true → Grown (λ i p. (i ≡ j) × (p ≡ q)) w w
+enter-known w {j} {q} f e h = record {
+  kept = λ i p l m. m;
+  fresh = λ i p l. fresh-none (reachedAt w i p) (pendingAt w i p);
+  only = λ i p l m. inl m;
+  all = λ i p l t. inl (rw (t .0, t .1, ← f, ← e) h);
+  same = refl;
+}
+
+-- it is new: r and p are the states at its place, u and v those with it
+module _ (w : List ℕ) {w₁ w₂ : List ℕ} {j q r p : ℕ} {b : Bool} (u v : ℕ) (room : (32768 ≤ length w) × (j < 8192) × (q < 16))
+    (er : r ≡ half w 0 j) (h : b ≡ false) (e : b ≡ hasState r q) (ep : p ≡ half w 16384 j)
+    (eu : (x : ℕ) → hasState u x ≡ (hasState r x || eqb x q)) (e₁ : w₁ ≡ putHalf w 0 j u)
+    (ev : (x : ℕ) → hasState v x ≡ (hasState p x || eqb x q)) (e₂ : w₂ ≡ putHalf w₁ 16384 j v) where
+  at-first : (i : ℕ) → i < 8192 → half w₂ 0 i ≡ half w₁ 0 i
+  at-first i l = rw e₂ (half-apart w₁ 16384 j v 0 i (inl (omega arith)))
+
+  reached-here : half w₂ 0 j ≡ u
+  reached-here = at-first j (room .1) ∙ rw e₁ (half-same w 0 j u (omega (arith, room .0, room .1)))
+
+  reached-there : (i : ℕ) → i < 8192 → (i ≡ j → ⊥) → half w₂ 0 i ≡ half w 0 i
+  reached-there i l n = at-first i l ∙ rw e₁ (half-other w 0 j u i n)
+
+  long : length w₁ ≡ length w
+  long = rw e₁ (length-put w 0 j u)
+
+  pending-here : half w₂ 16384 j ≡ v
+  pending-here = rw e₂ (half-same w₁ 16384 j v (omega (arith, long, room .0, room .1)))
+
+  pending-there : (i : ℕ) → i < 8192 → (i ≡ j → ⊥) → half w₂ 16384 i ≡ half w 16384 i
+  pending-there i l n =
+      let a : half w₂ 16384 i ≡ half w₁ 16384 i = rw e₂ (half-other w₁ 16384 j v i n) in
+      let b : half w₁ 16384 i ≡ half w 16384 i = rw e₁ (half-apart w 0 j u 16384 i (inr (omega (arith, room .1)))) in
+      a ∙ b
+
+  -- what holds at j, and at each other place
+  by-place : (P : ℕ → Type 0) → P j → ((i : ℕ) → i < 8192 → (i ≡ j → ⊥) → P i) → (i : ℕ) → i < 8192 → P i
+  by-place P a b i l = ⊎-elim (λ s. subst P (sym s) a) (λ n. b i l n) (eq-or-ne i j)
+
+  reached-at : (x : ℕ) → reachedAt w₂ j x ≡ (hasState r x || eqb x q)
+  reached-at x = ap (λ a. hasState a x) reached-here ∙ eu x
+
+  was-at : (x : ℕ) → reachedAt w j x ≡ hasState r x
+  was-at x = ap (λ a. hasState a x) (sym er)
+
+  pending-at : (x : ℕ) → pendingAt w₂ j x ≡ (pendingAt w j x || eqb x q)
+  pending-at x = ap (λ a. hasState a x) pending-here ∙ ev x ∙ ap (λ a. hasState a x || eqb x q) ep
+
+  fresh-at : (x : ℕ) (a c : Bool) → hasState r x ≡ a → eqb x q ≡ c → (pendingAt w j x || c) ≡ (pendingAt w j x || ((a || c) && not a))
+  fresh-at x true true ea ec = absurd (clash (sym (ap (hasState r) (eqb-true x q ec)) ∙ ea) (sym e ∙ h))
+  fresh-at x true false ea ec = refl
+  fresh-at x false c ea ec = rw and-true
+
+  pub enter-new : Grown (λ i x. (i ≡ j) × (x ≡ q)) w w₂
+  enter-new = record {
+    kept = λ i x. by-place (λ i. reachedAt w i x ≡ true → reachedAt w₂ i x ≡ true)
+        (λ m. reached-at x ∙ rw (sym (was-at x) ∙ m)) (λ i l n m. rw (reached-there i l n) m) i;
+    fresh = λ i x. by-place (λ i. pendingAt w₂ i x ≡ (pendingAt w i x || (reachedAt w₂ i x && not (reachedAt w i x))))
+        (rw (pending-at x, reached-at x, was-at x) (fresh-at x (hasState r x) (eqb x q) refl refl))
+        (λ i l n. rw (reached-there i l n, pending-there i l n) (fresh-none (reachedAt w i x) (pendingAt w i x))) i;
+    only = λ i x. by-place (λ i. reachedAt w₂ i x ≡ true → (reachedAt w i x ≡ true) ⊎ ((i ≡ j) × (x ≡ q)))
+        (λ m. ⊎-elim (λ a. inl (was-at x ∙ a)) (λ a. inr (refl, eqb-true x q a)) (or-elim (hasState r x) (eqb x q) (sym (reached-at x) ∙ m)))
+        (λ i l n m. inl (rw (reached-there i l n) at m)) i;
+    all = λ i x l t. inl (rw (t .0, t .1) (reached-at q ∙ rw (eq-eqb q q refl) (or-true (hasState r q))));
+    same = let a : length w₂ ≡ length w₁ = rw e₂ (length-put w₁ 16384 j v) in a ∙ long;
+  }
+    where
+      or-true : (a : Bool) → (a || true) ≡ true
+      or-true true = refl
+      or-true false = refl
+
+-- A pair at its node's door
+
+pub sought-first : (s : List ℕ) (x : ℕ) → Sought (words s) x 0
+sought-first s x = record { within = omega arith; before = λ i l. absurd (omega arith) }
+
+module _ (s : List ℕ) {x k : ℕ} (f : Sought (words s) x k) where
+  module _ {w : ℕ} {b : Bool} (e : w ≡ getD (words s) k 0) (h : b ≡ isDoorOf x w) where
+    pub sought-more : b ≡ false → k < length s / 4 → Sought (words s) x (k + 1)
+    sought-more n l = record { within = omega (arith, words-length s); before = below-more _ _ (f .before) (rw (← e, ← h) n) }
+
+    pub sought-found : b ≡ true → Found (words s) x k
+    sought-found n = record { sought = f; found = λ l. rw (← e, ← h) n }
+
+  pub sought-none : length s / 4 ≤ k → Found (words s) x k
+  sought-none n = record { sought = f; found = λ l. absurd (omega (arith, words-length s)) }
+
+pub found-door : (s : List ℕ) (x : ℕ) {j : ℕ} → j < length s / 4 → Found (words s) x j → DoorAt (words s) x j
+found-door s x {j} l f =
+    let h : j < length (words s) = omega (arith, words-length s) in
+    record { within = h; is = f .found h; first = f .sought .before }
+
+-- a node has one first door
+pub door-unique : {ws : List ℕ} {x i j : ℕ} → DoorAt ws x i → DoorAt ws x j → i ≡ j
+door-unique {i = i} {j = j} a b = ⊎-elim (λ e. e) (λ n. absurd (⊎-elim (λ l. clash (a .is) (b .first i l)) (λ l. clash (b .is) (a .first j l)) (ne-cases i j n))) (eq-or-ne i j)
+
+pub pair-entered : (s : List ℕ) (c : ℕ) {w w′ : List ℕ} {j : ℕ} → Grown (λ i p. (i ≡ j) × (p ≡ c % 16)) w w′ → Found (words s) (c / 16) j → j < length s / 4
+    → Grown (Placed (words s) (λ d. d ≡ c)) w w′
+pair-entered s c {j = j} g f l =
+    let d : DoorAt (words s) (c / 16) j = found-door s (c / 16) l f in
+    grown-iff g (λ i p m. (c, refl, rw (m .0) d, m .1)) (λ i p (a, e, b, h). (door-unique (rw e at b) d, h ∙ rw e))
+
+pub pair-lost : (s : List ℕ) (c : ℕ) {w : List ℕ} {j : ℕ} → Found (words s) (c / 16) j → length s / 4 ≤ j → Grown (Placed (words s) (λ d. d ≡ c)) w w
+pair-lost s c {j = j} f n = growing-first
+    (λ i p l (a, e, b, h). clash (rw e at (b .is)) (f .sought .before i (omega (arith, b .within, words-length s, n))))
+
+-- if a test passed
+pub entered-if : (s : List ℕ) (c : ℕ) {w w′ : List ℕ} {b : Bool} → Grown (Placed (words s) (λ d. d ≡ c)) w w′ → b ≡ true
+    → Grown (Placed (words s) (λ d. (b ≡ true) × (d ≡ c))) w w′
+entered-if s c g t = grown-iff g (λ i p (a, e, d, h). (a, (t, e), d, h)) (λ i p (a, e, d, h). (a, e .1, d, h))
+
+pub entered-not : (s : List ℕ) (c : ℕ) (w : List ℕ) {b : Bool} → b ≡ false → Grown (Placed (words s) (λ d. (b ≡ true) × (d ≡ c))) w w
+entered-not s c w t = growing-first (λ i p l (a, e, d, h). clash (e .0) t)
+
+-- a state less: v has q alone
+pub without-state : (s v r q : ℕ) → ((p : ℕ) → hasState v p ≡ (hasState 0 p || eqb p q)) → ((p : ℕ) → hasState r p ≡ (hasState s p && not (hasState v p)))
+    → (p : ℕ) → hasState r p ≡ (hasState s p && not (eqb p q))
+without-state s v r q e f p = f p ∙ rw (e p, has-empty p)

@@ -1,0 +1,2 @@
+// The hub at the end: the joining of a bundle of second replies.
+pub mod join_call;

@@ -1,0 +1,2 @@
+pub mod OldSearch
+pub mod RootSearch

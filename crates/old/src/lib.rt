@@ -1,0 +1,2 @@
+// The old search, over a whole plant.
+pub mod searching;

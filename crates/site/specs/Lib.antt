@@ -1,4 +1,0 @@
-pub mod First
-pub mod Second
-pub mod Called
-pub mod Reporting

@@ -1,4 +1,0 @@
-// A site's two replies.
-pub mod answering;
-pub mod first_call;
-pub mod reporting;

@@ -1,0 +1,6 @@
+pub mod Written
+pub mod Reported
+pub mod FirstReplies
+pub mod Traffic
+pub mod Reports
+pub mod FirstCalls

@@ -1,0 +1,3 @@
+// A site's first reply.
+pub mod first_call;
+pub mod reporting;

@@ -1,0 +1,473 @@
+-- The second reply's code: its checks in their order, the calls by position beside the nodes by position, the search from the called pairs,
+-- and the reply that is written. Assumes nothing.
+use mathlib.Core.Path.{_≡_, refl, sym, _∙_, ap, subst}
+use mathlib.Core.Logic.{⊎-elim}
+use mathlib.Core.Bool.{Bool, true, false, not, _&&_}
+use mathlib.Core.List.{List, [], _∷_, _++_, map}
+use Prim.Native.Nat.{ℕ, zero, suc, _+_, _*_, _/_, _%_, _^_, _≤_, _<_}
+use native.Mathlib.Omega.{arith}
+use borrow.Author.Tests.{eq-eqb, eqb-true, leb-true, leb-false}
+use lib.Dec.{T, eqb, leb}
+use lib.ListN.{length, getD, drop, length-map, length-drop}
+use Rattle.sets.specs.Sets.{Mem, here, there, Ascending, member, any}
+use Rattle.sets.proofs.Cases.{and-left, and-right, and-intro, clash, lt-or-le, eq-or-ne, not-elim}
+use Rattle.sets.proofs.Tests.{either, passed, is-true}
+use Rattle.sets.proofs.Sets.{member-iff}
+use Rattle.sets.proofs.Filter.{any-iff, all-iff, map-iff, map-filter-iff, not-member-iff}
+use Rattle.files.specs.Word.{words, putWord}
+use Rattle.files.specs.Field.{kindOf, bits, nodeOf, doorOf, siteOf, labelsOf, pair, pairOf, pairNode, pairState, answerWord, file, wordOf}
+use Rattle.files.specs.Refuse.{_then_, _unless_, headerCheck, roomCheck, sizeCheck}
+use Rattle.files.specs.Outcome.{zeros, padded}
+use Rattle.files.specs.Part.{isNode, isDoor, nodes, doors, partCheck}
+use Rattle.files.specs.Path.{pathCheck}
+use Rattle.files.specs.Calls.{callCheck, callsCheck}
+use Rattle.files.proofs.Words.{words-length}
+use Rattle.files.proofs.Fields.{pair-eta, site-below, labels-below}
+use Rattle.files.proofs.Checks.{checks, then-iff, then-assoc, unless-iff, refused-first, passed-first}
+use Rattle.files.proofs.Ordered.{ordered-iff}
+use Rattle.files.proofs.Parts.{part-some}
+use Rattle.expressions.specs.Expr.{Expr}
+use Rattle.expressions.specs.Labels.{exprOf}
+use Rattle.paths.specs.Letters.{reads}
+use Rattle.paths.specs.Automaton.{Automates}
+use Rattle.paths.specs.declared.automaton.Automaton.{Automaton}
+use Rattle.slots.specs.Slots.{nodeAt, number, Kept}
+use Rattle.slots.proofs.Places.{node-below, node-in, in-node, nodes-rise, header-node, nodes-same, rising, nodes-apart}
+use Rattle.walks.specs.Product.{answers}
+use Rattle.walks.specs.Search.{Begun, Closed, Blank, Marks, Seeded, Searched}
+use Rattle.walks.specs.Prepare.{Prepared}
+use Rattle.walks.proofs.Product.{answers-length}
+use Rattle.walks.proofs.Storing.{kept-refl, kept-trans}
+use Rattle.walks.proofs.Seeding.{marks-none, marks-same, closed-blank}
+use Rattle.walks.proofs.Preparing.{follows, tables, tables-kept}
+use Rattle.output.specs.Writer.{Written}
+use Rattle.output.proofs.Writing.{written-none, written-all, padded-head}
+use Rattle.listing.specs.Listing.{answerWords}
+use Rattle.listing.proofs.Answering.{answers-are}
+use Rattle.site_second.specs.Second.{called, againstCheck, secondReply}
+use Rattle.site_second.specs.Called.{callAt, holdsAt, shutAt, Advanced, SeededAt, SeededAll}
+use Rattle.site_second.proofs.SecondReplies.{called-iff, found, second-length}
+
+-- ---- calls by position
+
+position-mem : (l : List ℕ) (k : ℕ) → k < length l → Mem (getD l k 0) l
+position-mem [] k b = absurd (omega arith)
+position-mem (x ∷ l) zero b = here refl
+position-mem (x ∷ l) (suc k) b = there (position-mem l k (omega arith))
+
+mem-position : (v : ℕ) (l : List ℕ) → Mem v l → (k : ℕ) × (k < length l) × (getD l k 0 ≡ v)
+mem-position v (x ∷ l) (here e) = (0, omega arith, sym e)
+mem-position v (x ∷ l) (there m) = let (k, b, e) = mem-position v l m in (suc k, omega arith, e)
+
+rise-at : (l : List ℕ) (i j : ℕ) → Ascending l → i < j → j < length l → getD l i 0 < getD l j 0
+rise-at [] i j a h b = absurd (omega arith)
+rise-at (x ∷ l) i zero a h b = absurd (omega arith)
+rise-at (x ∷ l) zero (suc j) a h b = a .0 (getD l j 0) (position-mem l j (omega arith))
+rise-at (x ∷ l) (suc i) (suc j) a h b = rise-at l i j (a .1) (omega arith) (omega arith)
+
+call-mem : (cs : List ℕ) (k : ℕ) → 1 ≤ k → k < length cs → Mem (callAt cs k) (map pairOf (drop 1 cs))
+unfolding callAt
+call-mem [] k a b = absurd (omega arith)
+call-mem (h ∷ cs) zero a b = absurd (omega arith)
+call-mem (h ∷ cs) (suc k) a b = map-iff pairOf (pairOf (getD cs k 0)) cs .1 (getD cs k 0, position-mem cs k (omega arith), refl)
+
+mem-call : (cs : List ℕ) (c : ℕ) → Mem c (map pairOf (drop 1 cs)) → (k : ℕ) × (1 ≤ k) × (k < length cs) × (callAt cs k ≡ c)
+unfolding callAt
+mem-call [] c m = elim m [ ]
+mem-call (h ∷ cs) c m =
+    let (w, i, e) = map-iff pairOf c cs .0 m in
+    let (k, b, q) = mem-position w cs i in
+    (suc k, omega arith, omega arith, ap pairOf q ∙ e)
+
+call-word : (w : ℕ) → w < 2 ^ 32 → kindOf w ≡ 12 → bits 27 20 w ≡ 0 → w ≡ wordOf 12 (pairOf w)
+call-word w b k z = let h : w / 2 ^ 20 ≡ 3072 = high (w / 2 ^ 20) (sym (halves w) ∙ k₁) z in omega (arith, h)
+  where
+    halves : (w : ℕ) → w / 2 ^ 28 ≡ w / 2 ^ 20 / 256
+    halves w = omega arith
+
+    small : (w : ℕ) → w < 2 ^ 32 → w / 2 ^ 28 < 16
+    small w b = omega arith
+
+    twelve : (q : ℕ) → q < 16 → q % 16 ≡ 12 → q ≡ 12
+    twelve q b e = omega arith
+
+    k₁ : w / 2 ^ 28 ≡ 12
+    k₁ = twelve (w / 2 ^ 28) (small w b) k
+
+    high : (q : ℕ) → q / 256 ≡ 12 → q % 256 ≡ 0 → q ≡ 3072
+    high q e f = omega arith
+
+words-rise : (v w : ℕ) → v < w → v ≡ wordOf 12 (pairOf v) → w ≡ wordOf 12 (pairOf w) → pairNode (pairOf v) ≤ pairNode (pairOf w)
+words-rise v w h e f = let l : pairOf v < pairOf w = omega arith in nodes (pairOf v) (pairOf w) l
+  where
+    nodes : (c d : ℕ) → c < d → pairNode c ≤ pairNode d
+    nodes c d l = omega arith
+
+-- the nodes of accepted calls do not fall
+calls-rise : (cs : List ℕ) → callsCheck cs ≡ 0 → (k l : ℕ) → 1 ≤ k → k < l → l < length cs → getD cs l 0 < 2 ^ 32
+    → pairNode (callAt cs k) ≤ pairNode (callAt cs l)
+unfolding callAt
+calls-rise [] c k l a h b f = absurd (omega arith)
+calls-rise (w ∷ ws) c zero l a h b f = absurd (omega arith)
+calls-rise (w ∷ ws) c (suc k) zero a h b f = absurd (omega arith)
+calls-rise (w ∷ ws) c (suc k) (suc l) a h b f =
+    let (p, s) = then-iff (headerCheck 11 false true (suc (length ws)) w) _ .0 c in
+    let (asc, each) = ordered-iff (callCheck (labelsOf w)) 0 ws .0 s in
+    let i = simp checks at (each (getD ws k 0) (position-mem ws k (omega arith))) in
+    let j = simp checks at (each (getD ws l 0) (position-mem ws l (omega arith))) in
+    let r = rise-at ws k l (asc .1) (omega arith) (omega arith) in
+    words-rise (getD ws k 0) (getD ws l 0) r (call-word (getD ws k 0) (omega arith) (i .0 .0) (i .0 .1)) (call-word (getD ws l 0) f (j .0 .0) (j .0 .1))
+
+-- ---- nodes by position
+
+holds-parts : (ws : List ℕ) (i x : ℕ) → holdsAt ws i x ≡ true → (nodeAt ws i ≡ true) × (number ws i ≡ x)
+unfolding holdsAt
+holds-parts ws i x h =
+    (and-left (nodeAt ws i) (eqb (number ws i) x) h, eqb-true (number ws i) x (and-right (nodeAt ws i) (eqb (number ws i) x) h))
+
+holds-made : (ws : List ℕ) (i x : ℕ) → nodeAt ws i ≡ true → number ws i ≡ x → holdsAt ws i x ≡ true
+unfolding holdsAt
+holds-made ws i x n e = and-intro (nodeAt ws i) (eqb (number ws i) x) n (eq-eqb (number ws i) x e)
+
+in-doors : (f : List ℕ) (k : ℕ) → nodeAt f 0 ≡ false → nodeAt f k ≡ true → doorOf (getD f k 0) ≡ true → Mem (number f k) (doors (drop 1 f))
+unfolding nodeAt number
+in-doors [] k h n d = absurd (clash n refl)
+in-doors (w ∷ f) zero h n d = absurd (clash n h)
+in-doors (w ∷ f) (suc k) h n d =
+    map-filter-iff nodeOf isDoor (nodeOf (getD f k 0)) f .1 (
+      getD f k 0,
+      position-mem f k (node-within f k n),
+      passed (and-intro (isNode (getD f k 0)) (doorOf (getD f k 0)) n d),
+      refl,
+    )
+  where
+    node-within : (f : List ℕ) (k : ℕ) → isNode (getD f k 0) ≡ true → k < length f
+    node-within f k n = node-below f k n
+
+doors-in : (f : List ℕ) (x : ℕ) → Mem x (doors (drop 1 f)) → (k : ℕ) × (nodeAt f k ≡ true) × (number f k ≡ x) × (doorOf (getD f k 0) ≡ true)
+unfolding nodeAt number
+doors-in [] x m = elim m [ ]
+doors-in (h ∷ f) x m =
+    let (w, i, t, e) = map-filter-iff nodeOf isDoor x f .0 m in
+    let (k, b, q) = mem-position w f i in
+    let d : (isNode (getD f k 0) && doorOf (getD f k 0)) ≡ true = ap isDoor q ∙ is-true (isDoor w) t in
+    (suc k, and-left (isNode (getD f k 0)) (doorOf (getD f k 0)) d, ap nodeOf q ∙ e, and-right (isNode (getD f k 0)) (doorOf (getD f k 0)) d)
+
+-- from `from` to i all nodes are below x
+pub record Below (ws : List ℕ) (from x i : ℕ) : Type 0 where
+  pub below : (j : ℕ) → from ≤ j → j < i → nodeAt ws j ≡ true → number ws j < x
+
+pub below-none : (ws : List ℕ) (from x : ℕ) → Below ws from x from
+below-none ws from x = record { below = λ j a b. absurd (omega arith) }
+
+module _ {ws : List ℕ} {from x i n : ℕ} {b : Bool} (e : b ≡ nodeAt ws i) (f : n ≡ number ws i) (s : Below ws from x i) where
+  pub below-more : (b && leb x n) ≡ false → Below ws from x (i + 1)
+  below-more t = record {
+    below = λ j a l h.
+        ⊎-elim (λ (q : j ≡ i). ⊎-elim (λ k. absurd (clash (and-intro b (leb x n) (e ∙ subst (λ y. nodeAt ws y ≡ true) q h) k) t))
+        (λ k. omega (arith, leb-false x n k, ap (number ws) q)) (either (leb x n)))
+        (λ d. s .below j a (omega (arith, d)) h) (eq-or-ne j i);
+  }
+
+  pub advanced-here : (b && leb x n) ≡ true → Advanced ws from x i
+  advanced-here t = record {
+    below = s .below;
+    stop = λ l. (sym e ∙ and-left b (leb x n) t, omega (arith, leb-true x n (and-right b (leb x n) t)));
+  }
+
+pub advanced-end : {ws : List ℕ} {from x i : ℕ} → length ws ≤ i → Below ws from x i → Advanced ws from x i
+advanced-end h s = record { below = s .below; stop = λ l. absurd (omega arith) }
+
+-- ---- both, side by side
+
+-- the nodes before `at` are below those of the calls from k on
+pub record Past (ws cs : List ℕ) (at k : ℕ) : Type 0 where
+  pub low : 1 ≤ k
+  pub behind : (j l : ℕ) → j < at → nodeAt ws j ≡ true → k ≤ l → l < length cs → getD cs l 0 < 2 ^ 32 → number ws j < pairNode (callAt cs l)
+
+pub past-none : (ws cs : List ℕ) → Past ws cs 0 1
+past-none ws cs = record { low = omega arith; behind = λ j l b. absurd (omega arith) }
+
+module _ {ws cs : List ℕ} {at k x r : ℕ} (call : x ≡ pairNode (callAt cs k)) (past : Past ws cs at k) (adv : Advanced ws at x r) where
+  past-more : callsCheck cs ≡ 0 → Past ws cs r (k + 1)
+  past-more c = record {
+    low = omega arith;
+    behind = λ j l b n h i f.
+        ⊎-elim (λ s. past .behind j l s n (omega arith) i f)
+        (λ s. omega (arith, adv .below j s b n, calls-rise cs c k l (past .low) (omega arith) i f, call)) (lt-or-le j at);
+  }
+
+  -- the call's node stands at r, where the part has it
+  found-here : partCheck ws ≡ 0 → k < length cs → getD cs k 0 < 2 ^ 32 → Mem (pairNode (callAt cs k)) (nodes ws) → holdsAt ws r x ≡ true
+  found-here p b f m =
+      let (i, n, e) = in-node ws (pairNode (callAt cs k)) m in
+      let ai : at ≤ i = ⊎-elim (λ s. absurd (omega (arith, past .behind i k s n (omega arith) b f, e))) (λ s. s) (lt-or-le i at) in
+      let ri : r ≤ i = ⊎-elim (λ s. absurd (omega (arith, adv .below i ai s n, e, call))) (λ s. s) (lt-or-le i r) in
+      let (nr, xr) = adv .stop (omega (arith, node-below ws i n)) in
+      ⊎-elim (λ s. absurd (omega (arith, nodes-rise ws r i (rising ws p) nr n s, e, call)))
+      (λ s. let q : r ≡ i = omega arith in holds-made ws r x nr (ap (number ws) q ∙ e ∙ sym call)) (lt-or-le r i)
+
+-- ---- 14
+
+shut-parts : (ws : List ℕ) (i x : ℕ) → shutAt ws i x ≡ true → (holdsAt ws i x ≡ true) × (doorOf (getD ws i 0) ≡ false)
+unfolding shutAt
+shut-parts ws i x h = (
+  and-left (holdsAt ws i x) (not (doorOf (getD ws i 0))) h,
+  not-elim (doorOf (getD ws i 0)) (and-right (holdsAt ws i x) (not (doorOf (getD ws i 0))) h),
+)
+
+open-door : (ws : List ℕ) (i x : ℕ) → shutAt ws i x ≡ false → holdsAt ws i x ≡ true → doorOf (getD ws i 0) ≡ true
+unfolding shutAt
+open-door ws i x h k = ⊎-elim (λ d. d) (λ d. absurd (clash (and-intro (holdsAt ws i x) (not (doorOf (getD ws i 0))) k (ap not d)) h)) (either (doorOf (getD ws i 0)))
+
+-- of the calls before k none is for a node that is no door
+pub record Checking (ws cs : List ℕ) (at k : ℕ) : Type 0 where
+  pub past : Past ws cs at k
+  pub opened : (l : ℕ) → 1 ≤ l → l < k → Mem (pairNode (callAt cs l)) (nodes ws) → Mem (pairNode (callAt cs l)) (doors (drop 1 ws))
+
+pub checking-none : (ws cs : List ℕ) → Checking ws cs 0 1
+checking-none ws cs = record { past = past-none ws cs; opened = λ l a b. absurd (omega arith) }
+
+abbrev strays : List ℕ → List ℕ → Bool
+strays ws cs = any (λ c. not (member (pairNode c) (doors (drop 1 ws)))) (called (drop 1 ws) (drop 1 cs))
+
+module _ {ws cs : List ℕ} {at k x r : ℕ} (p : partCheck ws ≡ 0) (c : callsCheck cs ≡ 0) (b : k < length cs)
+    (call : x ≡ pairNode (callAt cs k)) (word : getD cs k 0 < 2 ^ 32) (s : Checking ws cs at k) (adv : Advanced ws at x r) {t : Bool} (shut : t ≡ shutAt ws r x) where
+  pub checking-more : t ≡ false → Checking ws cs r (k + 1)
+  checking-more e = record {
+    past = past-more call (s .past) adv c;
+    opened = λ l a i m.
+        ⊎-elim (λ (q : l ≡ k). subst (λ l. Mem (pairNode (callAt cs l)) (doors (drop 1 ws))) (sym q)
+        (here-open (subst (λ l. Mem (pairNode (callAt cs l)) (nodes ws)) q m)))
+        (λ n. s .opened l a (omega (arith, n)) m) (eq-or-ne l k);
+  }
+    where
+      here-open : Mem (pairNode (callAt cs k)) (nodes ws) → Mem (pairNode (callAt cs k)) (doors (drop 1 ws))
+      here-open m =
+          let h = found-here call (s .past) adv p b word m in
+          let (n, q) = holds-parts ws r x h in
+          subst (λ y. Mem y (doors (drop 1 ws))) (q ∙ call) (in-doors ws r (header-node ws p) n (open-door ws r x (sym shut ∙ e) h))
+
+  pub checking-refused : t ≡ true → 14 ≡ (14 unless not (strays ws cs))
+  checking-refused e =
+      let (h, d) = shut-parts ws r x (sym shut ∙ e) in
+      let (n, q) = holds-parts ws r x h in
+      let m : Mem (pairNode (callAt cs k)) (nodes (drop 1 ws)) = rw (nodes-same ws p) (subst (λ y. Mem y (nodes ws)) (q ∙ call) (node-in ws r n)) in
+      let stray : strays ws cs ≡ true = is-true (strays ws cs) (any-iff (λ c. not (member (pairNode c) (doors (drop 1 ws)))) (called (drop 1 ws) (drop 1 cs)) .1 (
+        callAt cs k,
+        called-iff (drop 1 ws) (drop 1 cs) (callAt cs k) .1 (call-mem cs k (s .past .low) b, m),
+        not-member-iff (pairNode (callAt cs k)) (doors (drop 1 ws)) .1 (λ i.
+            let (j, nj, ej, dj) = doors-in ws (pairNode (callAt cs k)) i in
+            let same : j ≡ r = nodes-apart ws p j r nj n (ej ∙ sym call ∙ sym q) in
+            clash (subst (λ y. doorOf (getD ws y 0) ≡ true) same dj) d),
+      )) in
+      rw stray
+
+pub checking-all : {ws cs : List ℕ} {at k : ℕ} → partCheck ws ≡ 0 → length cs ≤ k → Checking ws cs at k → 0 ≡ (14 unless not (strays ws cs))
+checking-all {ws} {cs} {at} {k} p h s = sym (unless-iff 14 (not (strays ws cs)) refl .1
+    (all-iff (λ c. member (pairNode c) (doors (drop 1 ws))) (called (drop 1 ws) (drop 1 cs)) .1 (λ c m.
+    let (i, n) = called-iff (drop 1 ws) (drop 1 cs) c .0 m in
+    let (l, a, b, e) = mem-call cs c i in
+    member-iff (pairNode c) (doors (drop 1 ws)) .1 (subst (λ c. Mem (pairNode c) (doors (drop 1 ws))) e
+    (s .opened l a (omega arith) (subst (λ c. Mem (pairNode c) (nodes ws)) (sym e) (rw (nodes-same ws p) at n)))))))
+
+-- 12 before it
+pub against-is : (ws ps cs : List ℕ) {n a b lc lp wc wp : ℕ} → n ≡ (a then b) → a ≡ (12 unless eqb lc lp) → lc ≡ labelsOf wc → lp ≡ labelsOf wp
+    → wc ≡ getD cs 0 0 → wp ≡ getD ps 0 0 → b ≡ (14 unless not (strays ws cs)) → n ≡ againstCheck ws ps cs
+against-is ws ps cs e f g h i j k = e ∙ rw (f, g, h, i, j, k)
+
+-- ---- the seeds
+
+pub seed-node : (ws : List ℕ) (i x : ℕ) {b : Bool} → b ≡ holdsAt ws i x → b ≡ true → nodeAt ws i ≡ true
+seed-node ws i x h e = holds-parts ws i x (sym h ∙ e) .0
+
+module _ {ws : List ℕ} {t : ℕ} {w : List ℕ} {i x c : ℕ} {b : Bool} (h : b ≡ holdsAt ws i x) (node : x ≡ pairNode c) where
+  pub seeded-here : {w′ : List ℕ} {q r : ℕ} → b ≡ true → q ≡ pairState c → Seeded ws t w w′ i q r → SeededAt ws t w w′ i c r
+  seeded-here {w′} {q} {r} e f s =
+      let n = holds-parts ws i x (sym h ∙ e) .1 in
+      let k : holdsAt ws i (pairNode c) ≡ true = ap (holdsAt ws i) (sym node) ∙ sym h ∙ e in
+      let z : pair (number ws i) q ≡ c = rw (n, node, f) (pair-eta c) in
+      record {
+        kept = s .kept;
+        begun = s .begun;
+        closed = s .closed;
+        marks = λ ds m. rw k (subst (λ y. Marks ws w′ (y ∷ ds)) z (s .marks ds m));
+      }
+
+  pub seeded-no : {top : ℕ} → b ≡ false → Begun ws t w top → SeededAt ws t w w i c top
+  seeded-no e s =
+      let k : holdsAt ws i (pairNode c) ≡ false = ap (holdsAt ws i) (sym node) ∙ sym h ∙ e in
+      record { kept = kept-refl ws t w; begun = s; closed = λ follow h. h; marks = λ ds m. rw k m }
+
+-- the called pairs before k are marked, and no others
+pub record Calling (ws cs : List ℕ) (t : ℕ) (w w′ : List ℕ) (at k top : ℕ) : Type 0 where
+  pub past : Past ws cs at k
+  pub kept : Kept ws t w w′
+  pub begun : Begun ws t w′ top
+  pub closed : (follow : List ℕ) → Closed ws follow w′
+  pub ds : List ℕ
+  pub marks : Marks ws w′ ds
+  pub sound : (c : ℕ) → Mem c ds → Mem c (called (drop 1 ws) (drop 1 cs))
+  pub complete : (l : ℕ) → 1 ≤ l → l < k → Mem (pairNode (callAt cs l)) (nodes ws) → Mem (callAt cs l) ds
+
+pub calling-none : (ws cs : List ℕ) (t : ℕ) (w : List ℕ) → Begun ws t w 0 → Blank ws w → Calling ws cs t w w 0 1 0
+calling-none ws cs t w g b = record {
+  past = past-none ws cs;
+  kept = kept-refl ws t w;
+  begun = g;
+  closed = λ follow. closed-blank ws w follow b;
+  ds = [];
+  marks = marks-none ws w b;
+  sound = λ c m. elim m [ ];
+  complete = λ l a h. absurd (omega arith);
+}
+
+pub calling-more : {ws cs : List ℕ} {t : ℕ} {w w₁ w₂ : List ℕ} {at k x r top top′ : ℕ} → callsCheck cs ≡ 0 → k < length cs
+    → x ≡ pairNode (callAt cs k) → getD cs k 0 < 2 ^ 32 → Calling ws cs t w w₁ at k top → Advanced ws at x r
+    → SeededAt ws t w₁ w₂ r (callAt cs k) top′ → Calling ws cs t w w₂ r (k + 1) top′
+calling-more {ws} {cs} {t} {w} {w₁} {w₂} {at} {k} {x} {r} {top} {top′} c b call word s adv h =
+    ⊎-elim yes no (either (holdsAt ws r (pairNode (callAt cs k))))
+  where
+    p : partCheck ws ≡ 0
+    p = s .begun .laid .accepted
+
+    yes : holdsAt ws r (pairNode (callAt cs k)) ≡ true → Calling ws cs t w w₂ r (k + 1) top′
+    yes e =
+        let (n, q) = holds-parts ws r (pairNode (callAt cs k)) e in
+        let m : Mem (pairNode (callAt cs k)) (nodes (drop 1 ws)) = rw (nodes-same ws p) (subst (λ y. Mem y (nodes ws)) q (node-in ws r n)) in
+        record {
+          past = past-more call (s .past) adv c;
+          kept = kept-trans (s .kept) (h .kept);
+          begun = h .begun;
+          closed = λ follow. h .closed follow (s .closed follow);
+          ds = callAt cs k ∷ s .ds;
+          marks = rw e at (h .marks (s .ds) (s .marks));
+          sound = λ d i. sounds d i m;
+          complete = λ l a i m.
+              ⊎-elim (λ (q : l ≡ k). here (ap (callAt cs) q)) (λ n. there (s .complete l a (omega (arith, n)) m)) (eq-or-ne l k);
+        }
+      where
+        sounds : (d : ℕ) → Mem d (callAt cs k ∷ s .ds) → Mem (pairNode (callAt cs k)) (nodes (drop 1 ws)) → Mem d (called (drop 1 ws) (drop 1 cs))
+        sounds d (here q) m =
+            subst (λ y. Mem y (called (drop 1 ws) (drop 1 cs))) (sym q) (called-iff (drop 1 ws) (drop 1 cs) (callAt cs k) .1 (call-mem cs k (s .past .low) b, m))
+        sounds d (there i) m = s .sound d i
+
+    no : holdsAt ws r (pairNode (callAt cs k)) ≡ false → Calling ws cs t w w₂ r (k + 1) top′
+    no e = record {
+      past = past-more call (s .past) adv c;
+      kept = kept-trans (s .kept) (h .kept);
+      begun = h .begun;
+      closed = λ follow. h .closed follow (s .closed follow);
+      ds = s .ds;
+      marks = rw e at (h .marks (s .ds) (s .marks));
+      sound = s .sound;
+      complete = λ l a i m.
+          ⊎-elim (λ (q : l ≡ k). absurd (clash (ap (holdsAt ws r) (sym call) ∙ found-here call (s .past) adv p b word (subst (λ l. Mem (pairNode (callAt cs l)) (nodes ws)) q m)) e))
+          (λ n. s .complete l a (omega (arith, n)) m) (eq-or-ne l k);
+    }
+
+pub calling-all : {ws cs : List ℕ} {t : ℕ} {w w′ : List ℕ} {at k top : ℕ} → length cs ≤ k → Calling ws cs t w w′ at k top → SeededAll ws cs t w w′ top
+calling-all {ws} {cs} h s = record {
+  kept = s .kept;
+  begun = s .begun;
+  closed = s .closed;
+  marks = marks-same (
+    s .sound,
+    λ c m.
+        let (i, n) = called-iff (drop 1 ws) (drop 1 cs) c .0 m in
+        let (l, a, b, e) = mem-call cs c i in
+        subst (λ c. Mem c (s .ds)) e (s .complete l a (omega arith) (subst (λ c. Mem (pairNode c) (nodes ws)) (sym e) (rw (nodes-same ws (s .begun .laid .accepted)) at n))),
+  ) (s .marks);
+}
+
+-- ---- the search from them
+
+pub called-answers : (ws cs : List ℕ) (a : Automaton) (small : a .accepts < 2 ^ 16) (t : ℕ) (w₁ w₂ w₃ : List ℕ) (top : ℕ)
+    → Prepared ws (reads (a .letters)) t w₁ → SeededAll ws cs t w₁ w₂ top → Searched ws t (a .follow) w₂ w₃
+    → (e : Expr) → Automates a e → answerWords ws w₃ (a .accepts) (length ws) ≡ map answerWord (answers (drop 1 ws) e (called (drop 1 ws) (drop 1 cs)))
+called-answers ws cs a small t w₁ w₂ w₃ top prepared seeded searched e h =
+    let tab = tables-kept (seeded .kept) (tables ws a e t w₁ h prepared) in
+    answers-are ws t (a .follow) w₂ w₃ searched (tab .laid) e (called (drop 1 ws) (drop 1 cs)) (follows a e h) (tab .masked)
+    (seeded .marks) (a .accepts) small (h .accepting)
+
+-- ---- the reply
+
+second-is : (part path calls : List ℕ) → secondReply part path calls ≡ file 13 (siteOf (getD part 0 0)) (labelsOf (getD path 0 0)) (map answerWord (found part path calls))
+unfolding secondReply
+second-is part path calls = refl
+
+-- the header and the answers, written behind each other, with the length put in
+pub reply-written : (n : ℕ) (f path calls o : List ℕ) (vs : List ℕ) (head : ℕ) {out₁ out₂ out₃ : List ℕ} {start count size : ℕ}
+    → partCheck f ≡ 0 → length f ≤ 4096 → 16384 ≤ n
+    → head ≡ wordOf 13 (siteOf (getD f 0 0) * 2 ^ 24 + labelsOf (getD path 0 0) * 2 ^ 20)
+    → vs ≡ map answerWord (found f path calls)
+    → o ≡ zeros n
+    → ((ws : List ℕ) → Written 4096 n ws o 0 → Written 4096 n (ws ++ head ∷ []) out₁ start)
+    → length out₁ ≡ n → ((ws : List ℕ) → Written 4096 (length out₁) ws out₁ start → Written 4096 (length out₁) (ws ++ vs) out₂ count)
+    → size ≡ count % 16384 → out₃ ≡ putWord out₂ 0 (head + size) → out₃ ≡ padded n (secondReply f path calls)
+reply-written n f path calls o vs head {out₁} {out₂} {out₃} {start} {count} {size} c few room hd e z g k h′ s q =
+    let h : (ws : List ℕ) → Written 4096 n ws out₁ start → Written 4096 n (ws ++ vs) out₂ count = rw k at h′ in
+    let w = h (head ∷ []) (g [] (subst (λ x. Written 4096 n [] x 0) (sym z) (written-none 4096 n))) in
+    let l : length vs ≤ 4095 = rw e (omega (
+      arith,
+      length-map (found f path calls) answerWord,
+      answers-length (drop 1 f) (exprOf (drop 1 path)) (called (drop 1 f) (drop 1 calls)),
+      length-drop 1 f,
+      part-some f c,
+    )) in
+    let (all, short, counted) = written-all 4096 n (head ∷ vs) (omega (arith, w .counted, l)) w in
+    let full : head + size ≡ wordOf 13 (siteOf (getD f 0 0) * 2 ^ 24 + labelsOf (getD path 0 0) * 2 ^ 20 + suc (length vs)) = omega (arith, counted, l, s) in
+    q ∙ rw (all, padded-head n head (head + size) vs, full)
+    (ap (padded n) (ap (file 13 (siteOf (getD f 0 0)) (labelsOf (getD path 0 0))) e ∙ sym (second-is f path calls)))
+
+-- a reply is no longer than the part
+pub reply-fits : (f path calls : List ℕ) → partCheck f ≡ 0 → length f ≤ 4096 → length (secondReply f path calls) ≤ 4096
+reply-fits f path calls c few = omega (arith, second-length f path calls c)
+
+-- ---- the checks: a, then those of the three inputs, then u
+
+in-line : (a b c d e f g u : ℕ) → ((a then ((b then c) then ((d then e) then (f then g)))) then u) ≡ (a then (b then (c then (d then (e then (f then (g then u)))))))
+in-line a b c d e f g u = simp then-assoc
+
+module _ (a b c d e f g u : ℕ) {room part path calls l m n : ℕ} (ea : room ≡ a) (eb : part ≡ (b then c)) (ed : path ≡ (d then e)) (ef : calls ≡ (f then g))
+    (el : l ≡ (path then calls)) (em : m ≡ (part then l)) (en : n ≡ (room then m)) where
+  pub number-is : n ≡ (a then ((b then c) then ((d then e) then (f then g))))
+  number-is = en ∙ rw (em, el, ea, eb, ed, ef)
+
+  pub at-inputs : (n ≡ 0 → ⊥) → n ≡ (a then (b then (c then (d then (e then (f then (g then u)))))))
+  at-inputs h = refused-first (a then ((b then c) then ((d then e) then (f then g)))) u h number-is ∙ in-line a b c d e f g u
+
+  pub at-against : {r : ℕ} → n ≡ 0 → r ≡ u → r ≡ (a then (b then (c then (d then (e then (f then (g then u)))))))
+  at-against z h = passed-first (a then ((b then c) then ((d then e) then (f then g)))) u z number-is h ∙ in-line a b c d e f g u
+
+  -- where none refused, part and calls are accepted
+  pub inputs-read : n ≡ 0 → (c ≡ 0) × (g ≡ 0)
+  inputs-read z =
+      let (i, t) = then-iff a ((b then c) then ((d then e) then (f then g))) .0 (sym number-is ∙ z) in
+      let (j, t) = then-iff (b then c) ((d then e) then (f then g)) .0 t in
+      let (k, t) = then-iff (d then e) (f then g) .0 t in
+      (then-iff b c .0 j .1, then-iff f g .0 t .1)
+
+-- what the checks say when all pass
+pub record Passed (out work : ℕ) (part path calls : List ℕ) : Type 0 where
+  pub room : (16384 ≤ out) × (32768 ≤ work)
+  pub few : length (words part) ≤ 4096
+  pub part-read : partCheck (words part) ≡ 0
+  pub path-read : pathCheck (words path) ≡ 0
+  pub calls-read : callsCheck (words calls) ≡ 0
+
+pub all-passed : (out work : ℕ) (part path calls : List ℕ) {n : ℕ} → n ≡ 0
+    → n ≡ (roomCheck 4096 out work then sizeCheck 4096 part then partCheck (words part) then sizeCheck 64 path then pathCheck (words path)
+    then sizeCheck 4096 calls then callsCheck (words calls) then againstCheck (words part) (words path) (words calls))
+    → Passed out work part path calls
+all-passed out work part path calls z e =
+    let (a, t) = then-iff (roomCheck 4096 out work) _ .0 (sym e ∙ z) in
+    let (b, t) = then-iff (sizeCheck 4096 part) _ .0 t in
+    let (c, t) = then-iff (partCheck (words part)) _ .0 t in
+    let (d, t) = then-iff (sizeCheck 64 path) _ .0 t in
+    let (p, t) = then-iff (pathCheck (words path)) _ .0 t in
+    let (f, t) = then-iff (sizeCheck 4096 calls) _ .0 t in
+    let (g, t) = then-iff (callsCheck (words calls)) _ .0 t in
+    let r : (16384 ≤ out) × (32768 ≤ work) = simp checks at a in
+    let s = simp checks at b in
+    record { room = r; few = omega (arith, words-length part, s .1); part-read = c; path-read = p; calls-read = g }

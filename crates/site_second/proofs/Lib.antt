@@ -1,0 +1,2 @@
+pub mod SecondReplies
+pub mod Calling

@@ -1,0 +1,146 @@
+-- A site's second reply, of an accepted part: it is an accepted file, no longer than the part, and its answers are nodes of the part,
+-- ascending. Assumes nothing.
+use mathlib.Core.Path.{_≡_, refl, ap}
+use mathlib.Core.Logic.{_↔_}
+use mathlib.Core.List.{List, [], _∷_, map, Memᴰ·of-map}
+use Prim.Native.Nat.{ℕ, _*_, _^_, _≤_, _<_}
+use native.Mathlib.Omega.{arith}
+use lib.Dec.{T}
+use lib.ListN.{length, getD, drop, length-map, length-drop}
+use Rattle.sets.specs.Sets.{Mem, Ascending, Lists, member, _⊆_}
+use Rattle.sets.specs.Reach.{Reach, seed}
+use Rattle.sets.proofs.Sets.{filter-iff, member-iff, lists-iff}
+use Rattle.sets.proofs.Filter.{all-iff}
+use Rattle.files.specs.Field.{siteOf, labelsOf, pair, pairOf, pairNode, pairState, file, answerWord}
+use Rattle.files.specs.Word.{bytesOf}
+use Rattle.files.specs.Outcome.{outcome}
+use Rattle.files.specs.Part.{nodes, doors, partCheck}
+use Rattle.files.specs.Path.{pathCheck}
+use Rattle.files.specs.Calls.{callsCheck}
+use Rattle.files.specs.Answers.{answersOf, answersCheck}
+use Rattle.files.proofs.Checks.{checks, then-zero, room-checked}
+use Rattle.files.proofs.Words.{words-bytes, size-checked}
+use Rattle.files.proofs.Fields.{answer, labels-below, site-below, pair-node, pair-state, pair-eta}
+use Rattle.files.proofs.Blocks.{node-small}
+use Rattle.files.proofs.Parts.{part-some, nodes-ascending}
+use Rattle.files.proofs.Ordered.{answers-accepted, answers-read}
+use Rattle.files.proofs.Files.{Made, file-made}
+use Rattle.expressions.specs.Expr.{Expr, count}
+use Rattle.expressions.specs.Positions.{accepts}
+use Rattle.expressions.specs.Labels.{exprOf}
+use Rattle.expressions.proofs.Paths.{path-small, path-some}
+use Rattle.walks.specs.Product.{Walk, stepIn, answers}
+use Rattle.walks.proofs.Product.{accepts-small, walk-reach, reach-walk, answers-lists, answers-nodes, answers-ascending, answers-length}
+use Rattle.site_second.specs.Second.{IsSecondReply, called, secondReply, againstCheck, secondReplyCall}
+
+-- the called pairs of a part are those of the call list whose nodes the part has
+pub called-iff : (part calls : List ℕ) (c : ℕ) → Mem c (called part calls) ↔ (Mem c (map pairOf calls) × Mem (pairNode c) (nodes part))
+called-iff part calls c =
+    let i = filter-iff (λ c. member (pairNode c) (nodes part)) c (map pairOf calls) in
+    let k = member-iff (pairNode c) (nodes part) in
+    (λ m. (i .0 m .0, k .0 (i .0 m .1)), λ m. i .1 (m .0, k .1 (m .1)))
+
+-- the nodes that the reply lists
+abbrev pub found : List ℕ → List ℕ → List ℕ → List ℕ
+found part path calls = answers (drop 1 part) (exprOf (drop 1 path)) (called (drop 1 part) (drop 1 calls))
+
+module _ (part path calls : List ℕ) (p : partCheck part ≡ 0) where
+  abbrev xs : List ℕ
+  xs = found part path calls
+
+  pub found-nodes : found part path calls ⊆ nodes (drop 1 part)
+  found-nodes = answers-nodes (drop 1 part) (exprOf (drop 1 path)) (called (drop 1 part) (drop 1 calls))
+
+  pub found-ascending : Ascending (found part path calls)
+  found-ascending = answers-ascending (drop 1 part) (exprOf (drop 1 path)) (called (drop 1 part) (drop 1 calls)) (nodes-ascending part p)
+
+  found-below : (x : ℕ) → Mem x xs → x < 2 ^ 16
+  found-below x m = node-small (drop 1 part) x (found-nodes x m)
+
+  second-is : secondReply part path calls ≡ file 13 (siteOf (getD part 0 0)) (labelsOf (getD path 0 0)) (map answerWord xs)
+  unfolding secondReply
+  second-is = refl
+
+  -- it lists them
+  pub second-answers : answersOf (drop 1 (secondReply part path calls)) ≡ found part path calls
+  second-answers = rw second-is (answers-read xs found-below)
+
+  -- it is never longer than the part
+  pub second-length : length (secondReply part path calls) ≤ length part
+  second-length = rw second-is (omega (
+    arith,
+    part-some part p,
+    length-map xs answerWord,
+    length-drop 1 part,
+    answers-length (drop 1 part) (exprOf (drop 1 path)) (called (drop 1 part) (drop 1 calls)),
+  ))
+
+  -- so it is an accepted file
+  pub second-made : length part ≤ 4096 → Made 13 (siteOf (getD part 0 0)) (labelsOf (getD path 0 0)) answersCheck (secondReply part path calls)
+  second-made h =
+      let l = rw second-is at second-length in
+      rw second-is (file-made 13 (siteOf (getD part 0 0)) (labelsOf (getD path 0 0)) answersCheck (map answerWord xs) (omega arith)
+      (site-below (getD part 0 0)) (labels-below (getD path 0 0)) (omega arith)
+      (λ w m. let r = Memᴰ·of-map answerWord xs m in rw (← r .2) (answer (r .0) (found-below (r .0) (r .1)) .word))
+      (λ h k. answers-accepted h xs found-ascending found-below))
+
+  -- what is written is document 01's second reply
+  pub second-reply : pathCheck path ≡ 0 → IsSecondReply part path calls (secondReply part path calls)
+  second-reply a = (xs, lists-iff (λ x. (λ r. (r .0, to x (r .1)), λ r. (r .0, from x (r .1)))) all, second-is)
+    where
+      e : Expr
+      e = exprOf (drop 1 path)
+
+      seeds : List ℕ
+      seeds = called (drop 1 part) (drop 1 calls)
+
+      small : count e ≤ 15
+      small = path-small path a
+
+      all : Lists (λ x. Mem x (nodes (drop 1 part)) × ((q : ℕ) × Reach (stepIn (drop 1 part) e) seeds (pair x q) × T (accepts e q))) xs
+      all = answers-lists (drop 1 part) e small seeds
+          (λ c m. omega (arith, node-small (drop 1 part) (pairNode c) (called-iff (drop 1 part) (drop 1 calls) c .0 m .1))) (nodes-ascending part p)
+
+      Hit : ℕ → Type 0
+      Hit x = (c : ℕ) × (q : ℕ) × Mem c (map pairOf (drop 1 calls)) × Mem (pairNode c) (nodes (drop 1 part))
+          × Walk (drop 1 part) e (pairNode c) (pairState c) x q × T (accepts e q)
+
+      to : (x : ℕ) → ((q : ℕ) × Reach (stepIn (drop 1 part) e) seeds (pair x q) × T (accepts e q)) → Hit x
+      to x (q, r, t) =
+          let h : q < 16 = omega (arith, small, accepts-small e q t) in
+          let (c, m, w) = reach-walk (drop 1 part) e small seeds (pair x q) r in
+          let i = called-iff (drop 1 part) (drop 1 calls) c .0 m in
+          (c, q, i .0, i .1, rw (pair-node x q h, pair-state x q h) at w, t)
+
+      from : (x : ℕ) → Hit x → (q : ℕ) × Reach (stepIn (drop 1 part) e) seeds (pair x q) × T (accepts e q)
+      from x (c, q, m, n, w, t) =
+          (q, walk-reach (drop 1 part) e small seeds (omega arith) w (rw (pair-eta c) (seed (called-iff (drop 1 part) (drop 1 calls) c .1 (m, n)))), t)
+
+-- The call
+
+-- a call list with the path's n, in which only doors of the part are called among its nodes
+pub against-checked : (part path calls : List ℕ) → labelsOf (getD calls 0 0) ≡ labelsOf (getD path 0 0)
+    → ((c : ℕ) → Mem c (map pairOf (drop 1 calls)) → Mem (pairNode c) (nodes (drop 1 part)) → Mem (pairNode c) (doors (drop 1 part)))
+    → againstCheck part path calls ≡ 0
+against-checked part path calls l d = simp checks (
+  l,
+  all-iff (λ c. member (pairNode c) (doors (drop 1 part))) (called (drop 1 part) (drop 1 calls)) .1 (λ c m.
+      let i = called-iff (drop 1 part) (drop 1 calls) c .0 m in
+      member-iff (pairNode c) (doors (drop 1 part)) .1 (d c (i .0) (i .1))),
+)
+
+calls-some : (calls : List ℕ) → callsCheck calls ≡ 0 → 0 < length calls
+calls-some [] e = absurd (omega arith)
+calls-some (h ∷ ws) e = omega arith
+
+-- written as bytes, an accepted part, path and call list are accepted by the call
+pub second-outcome : (out work : ℕ) (part path calls : List ℕ) → 4 * 4096 ≤ out → 32768 ≤ work
+    → ((w : ℕ) → Mem w part → w < 2 ^ 32) → length part ≤ 4096 → partCheck part ≡ 0
+    → ((w : ℕ) → Mem w path → w < 2 ^ 32) → length path ≤ 64 → pathCheck path ≡ 0
+    → ((w : ℕ) → Mem w calls → w < 2 ^ 32) → length calls ≤ 4096 → callsCheck calls ≡ 0 → againstCheck part path calls ≡ 0
+    → secondReplyCall out work (bytesOf part) (bytesOf path) (bytesOf calls) ≡ outcome 0 4096 (secondReply part path calls)
+unfolding secondReplyCall
+second-outcome out work part path calls h k v l p w m a u s c g =
+    rw (words-bytes part v, words-bytes path w, words-bytes calls u) (ap (λ c. outcome c 4096 (secondReply part path calls))
+    (then-zero (room-checked 4096 out work h k) (then-zero (size-checked 4096 part (part-some part p) l) (then-zero p
+    (then-zero (size-checked 64 path (path-some path a) m) (then-zero a (then-zero (size-checked 4096 calls (calls-some calls c) s) (then-zero c g))))))))

@@ -1,0 +1,2 @@
+// A site's second reply.
+pub mod answering;

@@ -1,0 +1,6 @@
+mod Digits
+mod Named
+mod Spaces
+mod Handing
+mod Trips
+mod Runs

@@ -1,9 +1,0 @@
-pub mod OldSearch
-pub mod Sited
-pub mod Choose
-pub mod Remark
-pub mod Passes
-pub mod Cutter
-pub mod Parts
-pub mod RootSearch
-pub mod CutCalls

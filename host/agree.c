@@ -1,0 +1,439 @@
+/* The inspector's checks against the library's, on document 01's examples, at its limits, and on damaged files; and the numbers that each
+   call can give, as docs/CALLS.md has them.
+   agree COUNT [DIRECTORY]: COUNT random samples for each seed, none of the damaged files at 0; some of the files are written to DIRECTORY, for
+   the inspector itself. */
+#include <stdio.h>
+#include <stdlib.h>
+#include <string.h>
+
+#include "calls.h"
+#include "compare.h"
+
+static uint32_t draw(uint32_t below)
+{
+    static uint32_t state = 2463534242u;
+    state ^= state << 13;
+    state ^= state >> 17;
+    state ^= state << 5;
+    return state % below;
+}
+
+static void push(struct file *f, uint32_t w)
+{
+    f->words[f->count++] = w;
+}
+
+/* Writes the header with the file's length. */
+static void head(struct file *f, uint32_t header)
+{
+    f->words[0] = header + (uint32_t)f->count;
+}
+
+/* A text of hexadecimal words; files are parted by semicolons. */
+static void parse(struct sample *s, enum subject subject, const char *text)
+{
+    s->subject = subject;
+    s->site = 0;
+    s->cut_off = 0;
+    s->files = 1;
+    s->file[0].count = 0;
+    for (char *end; *text != '\0'; text = end) {
+        push(&s->file[s->files - 1], (uint32_t)strtoul(text, &end, 16));
+        end += strspn(end, " ");
+        if (*end == ';') {
+            s->file[s->files++].count = 0;
+            end++;
+        }
+    }
+}
+
+#define W "10000007 20030001 30050002 20000002 30060003 20000003 30050002"
+#define P "40300007 50005005 50006006 50005005 60000001 60000003 60000001"
+#define FIRST_0 "7030000b 80010001 90000000 a0000021 90000002 a0000023 80000003 90000000 a0000021 90000002 a0000023"
+#define FIRST_1 "71300006 80000002 90000001 a0000032 90000003 a0000032"
+#define CALL_WORDS "b0300005 c0000010 c0000021 c0000023 c0000032"
+
+/* Document 01's table and end-to-end files, then rows of docs/DECISIONS.md on which readings differ. */
+static const struct example {
+    enum subject subject;
+    uint32_t number;
+    const char *text;
+} examples[] = {
+    {AS_PART, 3, "10100001"},
+    {AS_PART, 4, "10000002"},
+    {AS_PART, 5, "10000002 30050002"},
+    {AS_PART, 6, "10000003 20000002 20000002"},
+    {AS_PART, 7, "10000002 20020001"},
+    {AS_WHOLE, 8, "10000003 20030001 30050002"},
+    {AS_PATH, 9, "40000002 60000003"},
+    {AS_CALLS, 10, "b0000002 c0000011"},
+    {AS_CUT, 11, W "; 0 10 0"},
+    {AS_FIRSTS, 12, "70000001; 70000001"},
+    {AS_FIRSTS, 13, "70000002 80010001; 71000002 80000001"},
+    {AS_FIRSTS, 14, "70000004 80010001 90000000 a0000020"},
+    {AS_PART, 0, "10000001"},
+    {AS_PART, 0, "10000005 20030001 30050002 20010003 30050002"},
+    {AS_PART, 0, "11000003 20010002 30060003"},
+    {AS_WHOLE, 0, W},
+    {AS_PATH, 0, P},
+    {AS_PATH, 0, "40000002 60000000"},
+    {AS_CUT, 0, W "; 0 1 0"},
+    {AS_FIRSTS, 0, FIRST_0 "; " FIRST_1},
+    {AS_FIRSTS, 0, FIRST_1 "; " FIRST_0},
+    {AS_CALLS, 0, CALL_WORDS},
+    {AS_SECONDS, 0, "d0300001; d1300002 e0000002"},
+    {AS_ASKED, 0, "10000005 20030001 30050002 20010003 30050002; " P "; " CALL_WORDS},
+    {AS_ASKED, 12, "10000001; 40000002 60000000; " CALL_WORDS},
+    {AS_ASKED, 14, "10000002 20000002; " P "; " CALL_WORDS},
+    {AS_WHOLE, 7, "10000002 20010001"},
+    {AS_PART, 7, "10000003 20030001 20030002"},
+    {AS_PATH, 9, "40000001"},
+    {AS_PATH, 5, "40100002 52001001"},
+    {AS_PATH, 5, "40100002 50001002"},
+    {AS_PATH, 9, "40200002 50001001"},
+    {AS_FIRSTS, 7, "70000002 80000001"},
+    {AS_FIRSTS, 7, "70000002 80010001; 71000002 80010002"},
+    {AS_FIRSTS, 5, "70000003 80010001 90000000; 71000001"},
+    {AS_FIRSTS, 5, "70000004 80010001 90000000 80010000"},
+    {AS_FIRSTS, 12, "70000002 80010001; 71100001"},
+    {AS_FIRSTS, 4, "70000000"},
+    {AS_SECONDS, 13, "d0000002 e0000001; d1000002 e0000001"},
+    {AS_SECONDS, 12, "d0000002 e0000001; d0000002 e0000001"},
+    {AS_SECONDS, 0, "d0000001"},
+};
+
+/* Files that the damaged ones are made of. */
+static const struct example seeds[] = {
+    {AS_PART, 0, "10000005 20030001 30050002 20010003 30050002"},
+    {AS_PART, 0, "1a000009 20000000 30000000 30000001 3fff0000 20030007 37ff0007 3800ffff 2001ffff"},
+    {AS_WHOLE, 0, W},
+    {AS_WHOLE, 0, "1f000007 20000000 20030002 30010000 30010002 30020003 20010003"},
+    {AS_PATH, 0, P},
+    {AS_PATH, 0, "40200006 51000007 60000000 60000002 50fff000 60000001"},
+    {AS_CALLS, 0, CALL_WORDS},
+    {AS_FIRSTS, 0, FIRST_0 "; " FIRST_1},
+    {AS_FIRSTS, 0, "72100003 80000000 80010005; 70100007 80000007 90000000 a0000051 a0000071 90000001 a0000001; 73100001"},
+    {AS_SECONDS, 0, "d0300001; d1300002 e0000002"},
+    {AS_SECONDS, 0, "d5f00004 e0000001 e0000003 e000ffff; d0f00003 e0000000 e0000002; dff00001"},
+    {AS_CUT, 0, W "; 0 1 0"},
+    {AS_ASKED, 0, "10000005 20030001 30050002 20010003 30050002; " P "; " CALL_WORDS},
+    {AS_ASKED, 0, "10000003 20030001 20000002; " P "; b0300003 c0000010 c0000033"},
+};
+
+static void copy(struct sample *to, const struct sample *from)
+{
+    to->subject = from->subject;
+    to->site = from->site;
+    to->files = from->files;
+    to->cut_off = from->cut_off;
+    for (int k = 0; k < from->files; k++) {
+        to->file[k].count = from->file[k].count;
+        memcpy(to->file[k].words, from->file[k].words, 4 * from->file[k].count);
+    }
+}
+
+static void remove_word(struct file *f, size_t i)
+{
+    memmove(f->words + i, f->words + i + 1, 4 * (f->count - i - 1));
+    f->count--;
+}
+
+static void insert_word(struct file *f, size_t i, uint32_t w)
+{
+    memmove(f->words + i + 1, f->words + i, 4 * (f->count - i));
+    f->words[i] = w;
+    f->count++;
+}
+
+static void swap_words(struct file *f, size_t i, size_t k)
+{
+    uint32_t w = f->words[i];
+    f->words[i] = f->words[k];
+    f->words[k] = w;
+}
+
+static bool is_cut_list(const struct sample *s, const struct file *f)
+{
+    return s->subject == AS_CUT && f == &s->file[1];
+}
+
+/* Makes the lengths right again, so that a later check is reached. */
+static void mend(struct sample *s)
+{
+    for (int k = 0; k < s->files; k++)
+        if (s->file[k].count > 0 && !is_cut_list(s, &s->file[k]))
+            head(&s->file[k], s->file[k].words[0] & 0xffffc000u);
+}
+
+static uint32_t any_word(const struct sample *s)
+{
+    const struct file *f = &s->file[draw((uint32_t)s->files)];
+    return f->count == 0 ? draw(16) << 28 : f->words[draw((uint32_t)f->count)];
+}
+
+static void damage(struct sample *s)
+{
+    struct file *f = &s->file[draw((uint32_t)s->files)];
+    size_t i = f->count == 0 ? 0 : draw((uint32_t)f->count);
+    if (f->count == 0 || f->count > 60)
+        return;
+    switch (draw(7)) {
+    case 0: f->words[i] ^= 1u << draw(32); break;
+    case 1: f->words[i] += draw(3) - 1; break;
+    case 2: f->words[i] = (f->words[i] & 0x0fffffffu) | draw(16) << 28; break;
+    case 3: remove_word(f, i); break;
+    case 4: insert_word(f, i, any_word(s)); break;
+    case 5: swap_words(f, i, f->count - 1); break;
+    default: f->words[i] = any_word(s); break;
+    }
+}
+
+static void damage_at_random(const struct sample *seed, long samples)
+{
+    static struct sample s;
+    for (long r = 0; r < samples; r++) {
+        copy(&s, seed);
+        for (uint32_t k = draw(4); k > 0; k--)
+            damage(&s);
+        if (draw(8) > 0)
+            mend(&s);
+        if (draw(32) == 0)
+            s.cut_off = draw(9);
+        if (s.subject == AS_CUT)
+            s.site = draw(18);
+        compare(&s);
+    }
+}
+
+/* Every bit of every word turned, and every word left out, doubled and swapped, with lengths left and mended. */
+static void damage_everywhere(const struct sample *seed)
+{
+    static struct sample s;
+    for (int k = 0; k < seed->files; k++)
+        for (size_t i = 0; i < seed->file[k].count; i++)
+            for (unsigned way = 0; way < 38; way++) {
+                copy(&s, seed);
+                struct file *f = &s.file[k];
+                if (way < 32)
+                    f->words[i] ^= 1u << way;
+                else if (way < 34)
+                    remove_word(f, i);
+                else if (way < 36)
+                    insert_word(f, i, f->words[i]);
+                else
+                    swap_words(f, i, f->count - 1);
+                if (way >= 32 && way % 2 == 1)
+                    mend(&s);
+                compare(&s);
+            }
+}
+
+/* A file of so many words: the header, and behind it words that go up by step. */
+static void fill(struct sample *s, int k, uint32_t header, uint32_t first, uint32_t step, size_t count)
+{
+    s->files = k + 1;
+    s->file[k].count = 1;
+    for (uint32_t i = 0; i + 1 < count; i++)
+        push(&s->file[k], first + step * i);
+    head(&s->file[k], header);
+}
+
+static void test_sizes(void)
+{
+    static struct sample s;
+    static const struct {
+        enum subject subject;
+        uint32_t header, first, step;
+        size_t limit;
+    } files[] = {
+        {AS_PART, 0x10000000, 0x20000000, 1, MOWQACHI_PART_WORDS},
+        {AS_PATH, 0x40000000, 0x60000000, 0, 17},
+        {AS_CALLS, 0xb0f00000, 0xc0000000, 1, MOWQACHI_CALLS_WORDS},
+        {AS_SECONDS, 0xd0000000, 0xe0000000, 1, MOWQACHI_REPLY_WORDS},
+        {AS_FIRSTS, 0x70000000, 0x80000000, 1, MOWQACHI_REPLY_WORDS},
+    };
+    for (size_t k = 0; k < sizeof files / sizeof *files; k++)
+        for (size_t count = files[k].limit - 1; count <= files[k].limit + 2; count++) {
+            parse(&s, files[k].subject, "");
+            fill(&s, 0, files[k].header, files[k].first, files[k].step, count);
+            compare(&s);
+        }
+}
+
+static void test_bundles(void)
+{
+    static struct sample s;
+    parse(&s, AS_SECONDS, "");
+    fill(&s, 0, 0xd0000000, 0xe0000000, 1, MOWQACHI_REPLY_WORDS);
+    fill(&s, 1, 0xd1000000, 0xe0008000, 1, MOWQACHI_REPLY_WORDS);
+    expect(&s, 0);
+    fill(&s, 2, 0xd2000000, 0, 0, 1);
+    expect(&s, 2);
+    parse(&s, AS_FIRSTS, "");
+    fill(&s, 0, 0x70000000, 0x80000000, 1, MOWQACHI_REPLY_WORDS);
+    fill(&s, 1, 0x71000000, 0x80008000, 1, MOWQACHI_REPLY_WORDS);
+    expect(&s, 7);
+    s.file[1].words[1] |= 0x10000;
+    expect(&s, 0);
+    fill(&s, 2, 0x72000000, 0, 0, 1);
+    expect(&s, 2);
+    parse(&s, AS_FIRSTS, "");
+    fill(&s, 0, 0x70000000, 0x80000000, 1, MOWQACHI_REPLY_WORDS + 1);
+    expect(&s, 4);
+}
+
+/* A path of labels, then operators. */
+static void fill_path(struct sample *s, uint32_t n, uint32_t label, size_t labels, uint32_t operator, size_t operators)
+{
+    parse(s, AS_PATH, "40000000");
+    for (size_t i = 0; i < labels; i++)
+        push(&s->file[0], label);
+    for (size_t i = 0; i < operators; i++)
+        push(&s->file[0], operator);
+    head(&s->file[0], 0x40000000 + n * 0x100000);
+}
+
+static void test_paths(void)
+{
+    static struct sample s;
+    fill_path(&s, 0, 0x60000000, 1, 0x60000003, MOWQACHI_PATH_WORDS - 2);
+    expect(&s, 0);
+    fill_path(&s, 0, 0x60000000, 1, 0x60000003, MOWQACHI_PATH_WORDS - 1);
+    expect(&s, 2);
+    fill_path(&s, 15, 0x50fff000, 15, 0x60000002, 14);
+    expect(&s, 0);
+    fill_path(&s, 0, 0x50fff000, 16, 0x60000002, 15);
+    expect(&s, 9);
+    fill_path(&s, 0, 0x60000000, 16, 0x60000001, 15);
+    expect(&s, 0);
+    fill_path(&s, 0, 0x60000000, 17, 0x60000001, 16);
+    expect(&s, 9);
+}
+
+static void must_be(const char *what, size_t expected, size_t got)
+{
+    if (expected != got) {
+        printf("%s: %zu, not %zu\n", what, got, expected);
+        exit(1);
+    }
+}
+
+/* The bytes of a file, in a buffer of the caller's. */
+static struct span bytes_of(const struct file *f, uint8_t *bytes)
+{
+    for (size_t i = 0; i < 4 * f->count; i++)
+        bytes[i] = (uint8_t)(f->words[i / 4] >> 8 * (i % 4));
+    return (struct span){bytes, 4 * f->count};
+}
+
+/* Row 15: two doors, so many targets each, the star of an or of 15 full ranges. */
+static void test_dear_reply(uint32_t targets, uint32_t number, size_t words)
+{
+    static struct sample part, path;
+    static uint8_t a[4 * MOST], b[4 * MOST];
+    struct span found;
+    parse(&part, AS_PART, "10000000");
+    for (uint32_t x = 0; x < 2; x++) {
+        push(&part.file[0], 0x20010000 + x);
+        for (uint32_t t = 0; t < targets; t++)
+            push(&part.file[0], 0x30000002 + t);
+    }
+    head(&part.file[0], 0x10000000);
+    fill_path(&path, 15, 0x50fff000, 15, 0x60000002, 14);
+    push(&path.file[0], 0x60000003);
+    head(&path.file[0], 0x40f00000);
+    struct asked asked = {FIRST_REPLY, {bytes_of(&part.file[0], a), bytes_of(&path.file[0], b)}, 0};
+    must_be("number of the dear reply", number, call(&asked, &found));
+    must_be("words of the dear reply", words, words_of(found));
+}
+
+/* A root's row that reaches 255 doors in all states, and one door on from there in so many: 4,081 pairs and those. */
+static void test_long_list(uint32_t further, uint32_t number, size_t words)
+{
+    static struct file f;
+    static uint8_t bytes[4 * MOST];
+    struct span found, first;
+    f.count = 1;
+    push(&f, 0x80010000);
+    push(&f, 0x90000000);
+    for (uint32_t c = 16; c < 16 * 256; c++)
+        push(&f, 0xa0000000 + c);
+    head(&f, 0x70f00000);
+    first = bytes_of(&f, bytes);
+    f.count = 1;
+    for (uint32_t x = 1; x < 256; x++)
+        push(&f, 0x80000000 + x);
+    push(&f, 0x90000003);
+    for (uint32_t q = 0; q < further; q++)
+        push(&f, 0xa0001000 + q);
+    push(&f, 0x80000100);
+    head(&f, 0x71f00000);
+    struct asked asked = {CALL_LIST, {{bytes, first.len + bytes_of(&f, bytes + first.len).len}}, 0};
+    must_be("number of the long call list", number, call(&asked, &found));
+    must_be("words of the long call list", words, words_of(found));
+}
+
+/* Number 1 at every call, ahead of inputs that would be refused too; longer buffers are fine. */
+static void test_buffers(void)
+{
+    static uint8_t bytes[6][4 * 64];
+    static const char *const texts[6] = {W, P, "10000003 20010002 30060003", FIRST_0 " " FIRST_1, CALL_WORDS, "d0300001 d1300002 e0000002"};
+    static const uint8_t cuts[] = {0, 1, 0};
+    static struct sample s;
+    struct span f[6], cut = {cuts, sizeof cuts};
+    for (int k = 0; k < 6; k++) {
+        parse(&s, AS_PART, texts[k]);
+        f[k] = bytes_of(&s.file[0], bytes[k]);
+    }
+    const struct asked asked[] = {{OLD_SEARCH, {f[0], f[1]}, 0}, {CUT, {f[0], cut}, 1}, {FIRST_REPLY, {f[2], f[1]}, 0},
+                                  {CALL_LIST, {f[3]}, 0}, {SECOND_REPLY, {f[2], f[1], f[4]}, 0}, {JOIN, {f[5]}, 0}};
+    for (int c = 0; c < CALL_COUNT; c++) {
+        const struct asked none = {asked[c].call, {{NULL, 0}}, 99};
+        size_t out = output_bytes(asked[c].call), work = MOWQACHI_WORK_BYTES;
+        must_be("number at just enough", 0, call_with(&asked[c], out, work));
+        must_be("number with more", 0, call_with(&asked[c], out + 1234567, work + 3));
+        must_be("number of a short output", 1, call_with(&asked[c], out - 1, work));
+        must_be("number of a short working buffer", 1, call_with(&asked[c], out, work - 1));
+        must_be("number of no buffers and inputs", 1, call_with(&none, 0, 0));
+    }
+}
+
+/* The rows of the table of docs/CALLS.md. */
+static void print_table(void)
+{
+    for (int c = 0; c < CALL_COUNT; c++) {
+        printf("| `%s` |", call_names[c]);
+        for (unsigned i = 1; i <= MOWQACHI_RESULT; i++)
+            printf(numbers_given((enum call)c) >> i & 1 ? " %u |" : " |", i);
+        printf("\n");
+    }
+}
+
+int main(int argc, char **argv)
+{
+    static struct sample s;
+    long samples = argc > 1 ? atol(argv[1]) : 0;
+    if (argc > 2)
+        write_into(argv[2]);
+    for (size_t i = 0; i < sizeof examples / sizeof *examples; i++) {
+        parse(&s, examples[i].subject, examples[i].text);
+        expect(&s, examples[i].number);
+    }
+    test_sizes();
+    test_bundles();
+    test_paths();
+    test_dear_reply(8, 0, 3875);
+    test_dear_reply(9, MOWQACHI_RESULT, 0);
+    test_long_list(14, 0, 4096);
+    test_long_list(15, MOWQACHI_RESULT, 0);
+    test_buffers();
+    for (size_t i = 0; i < sizeof seeds / sizeof *seeds && samples > 0; i++) {
+        parse(&s, seeds[i].subject, seeds[i].text);
+        expect(&s, 0);
+        damage_everywhere(&s);
+        damage_at_random(&s, samples);
+    }
+    print_compared();
+    print_table();
+    return 0;
+}

@@ -1,0 +1,230 @@
+#include "compare.h"
+
+#include <stdio.h>
+#include <stdlib.h>
+#include <string.h>
+
+#include "calls.h"
+#include "checks.h"
+
+enum { WRITTEN_EVERY = 1000 };
+
+/* The kinds of the calls' results: the inspector must accept what the library writes. */
+static const unsigned result_kinds[CALL_COUNT] = {LIST, PART, FIRST, CALLS, SECOND, LIST};
+
+const char *const options[SUBJECTS] = {"--part", "--whole", "--path", "--calls", "--firsts", "--seconds", "--cut", "--asked"};
+
+struct input {
+    size_t len;
+    uint8_t bytes[4 * 3 * MOST];
+};
+
+static struct input inputs[3];
+static const char *directory;
+static FILE *list;
+static size_t numbers[SUBJECTS][MOWQACHI_RESULT + 1], written;
+
+void write_into(const char *name)
+{
+    char path[4096];
+    snprintf(path, sizeof path, "%s/list", name);
+    directory = name;
+    list = fopen(path, "w");
+    if (list == NULL)
+        exit(1);
+}
+
+void print_compared(void)
+{
+    for (int k = 0; k < SUBJECTS; k++) {
+        printf("%-9s ", options[k]);
+        for (unsigned i = 0; i <= MOWQACHI_RESULT; i++)
+            if (numbers[k][i] > 0)
+                printf(" %u: %zu", i, numbers[k][i]);
+        printf("\n");
+    }
+    if (list != NULL && fclose(list) != 0)
+        exit(1);
+}
+
+static void append(struct input *in, const struct file *f, size_t width)
+{
+    for (size_t i = 0; i < f->count; i++)
+        for (size_t k = 0; k < width; k++)
+            in->bytes[in->len++] = (uint8_t)(f->words[i] >> 8 * k);
+}
+
+static int lay_out(const struct sample *s)
+{
+    bool apart = s->subject == AS_CUT || s->subject == AS_ASKED;
+    for (int k = 0; k < 3; k++)
+        inputs[k].len = 0;
+    for (int k = 0; k < s->files; k++)
+        append(&inputs[apart ? k : 0], &s->file[k], s->subject == AS_CUT && k == 1 ? 1 : 4);
+    int last = apart ? s->files - 1 : 0;
+    inputs[last].len -= s->cut_off < inputs[last].len ? s->cut_off : inputs[last].len;
+    return last + 1;
+}
+
+static struct span input(int k)
+{
+    return (struct span){inputs[k].bytes, inputs[k].len};
+}
+
+static struct verdict then(struct verdict v, struct verdict next)
+{
+    return v.number != 0 ? v : next;
+}
+
+static struct verdict inspected(const struct sample *s)
+{
+    struct span a = input(0), b = input(1), c = input(2);
+    struct verdict v;
+    switch (s->subject) {
+    case AS_PART: return check_file(a, PART);
+    case AS_WHOLE: return check_whole(a);
+    case AS_PATH: return check_file(a, PATH);
+    case AS_CALLS: return check_file(a, CALLS);
+    case AS_FIRSTS: return check_bundle(a, FIRST);
+    case AS_SECONDS: return check_bundle(a, SECOND);
+    case AS_CUT:
+        v = check_whole(a);
+        return v.number != 0 ? v : check_cuts(a, b, s->site);
+    default:
+        v = then(check_file(a, PART), then(check_file(b, PATH), check_file(c, CALLS)));
+        return v.number != 0 ? v : check_against(a, b, c);
+    }
+}
+
+/* A path of n labels: their or, or the empty word. */
+static struct span path_of(unsigned n)
+{
+    static uint8_t bytes[4 * MOWQACHI_PATH_WORDS];
+    struct input in = {.len = 0};
+    struct file f = {.count = 1};
+    for (unsigned i = 0; i < n; i++) {
+        f.words[f.count++] = 0x50fff000;
+        if (i > 0)
+            f.words[f.count++] = 0x60000002;
+    }
+    if (n == 0)
+        f.words[f.count++] = 0x60000000;
+    f.words[0] = 0x40000000 + n * 0x100000 + (uint32_t)f.count;
+    append(&in, &f, 4);
+    memcpy(bytes, in.bytes, in.len);
+    return (struct span){bytes, in.len};
+}
+
+/* The n of a file's header, 0 where there is none. */
+static unsigned n_in(struct span s)
+{
+    return s.len < 4 ? 0 : n_of(word_at(s, 0));
+}
+
+/* A cut list for this whole, all of it at site 0. */
+static struct span no_cut(struct span whole)
+{
+    static const uint8_t zeros[MOST];
+    size_t nodes = 0;
+    for (size_t i = 1; i < words_of(whole); i++)
+        nodes += kind_of(word_at(whole, i)) == NODE;
+    return (struct span){zeros, nodes};
+}
+
+/* The calls that read the sample as what it is given as, with nothing to refuse in their other inputs. */
+static int calls_for(const struct sample *s, struct asked asked[3])
+{
+    static const uint8_t lone[] = {1, 0, 0, 0x10}, root[] = {2, 0, 0, 0x10, 0, 0, 3, 0x20};
+    static uint8_t bare[] = {1, 0, 0, 0xb0};
+    struct span a = input(0), b = input(1), c = input(2);
+    struct span part = {lone, sizeof lone}, whole = {root, sizeof root}, none = {bare, sizeof bare};
+    bare[2] = (uint8_t)(s->subject == AS_PATH ? n_in(a) << 4 : 0);
+    switch (s->subject) {
+    case AS_PART:
+        asked[0] = (struct asked){FIRST_REPLY, {a, path_of(0)}, 0};
+        asked[1] = (struct asked){SECOND_REPLY, {a, path_of(0), none}, 0};
+        return 2;
+    case AS_WHOLE:
+        asked[0] = (struct asked){OLD_SEARCH, {a, path_of(0)}, 0};
+        asked[1] = (struct asked){CUT, {a, no_cut(a)}, 0};
+        return 2;
+    case AS_PATH:
+        asked[0] = (struct asked){FIRST_REPLY, {part, a}, 0};
+        asked[1] = (struct asked){OLD_SEARCH, {whole, a}, 0};
+        asked[2] = (struct asked){SECOND_REPLY, {part, a, none}, 0};
+        return 3;
+    case AS_CALLS: asked[0] = (struct asked){SECOND_REPLY, {part, path_of(n_in(a)), a}, 0}; return 1;
+    case AS_FIRSTS: asked[0] = (struct asked){CALL_LIST, {a}, 0}; return 1;
+    case AS_SECONDS: asked[0] = (struct asked){JOIN, {a}, 0}; return 1;
+    case AS_CUT: asked[0] = (struct asked){CUT, {a, b}, s->site}; return 1;
+    default: asked[0] = (struct asked){SECOND_REPLY, {a, b, c}, 0}; return 1;
+    }
+}
+
+static void write_out(const struct sample *s, int count, uint32_t number)
+{
+    if (directory == NULL || (s->subject == AS_CUT && s->site != 0))
+        return;
+    fprintf(list, "%u %s", (unsigned)number, options[s->subject]);
+    for (int k = 0; k < count; k++) {
+        char name[4096];
+        snprintf(name, sizeof name, "%s/%zu-%d", directory, written, k);
+        FILE *f = fopen(name, "wb");
+        if (f == NULL || fwrite(inputs[k].bytes, 1, inputs[k].len, f) != inputs[k].len || fclose(f) != 0)
+            exit(1);
+        fprintf(list, " %s", name);
+    }
+    fprintf(list, "\n");
+    written++;
+}
+
+static void disagree(const struct sample *s, unsigned theirs, unsigned ours)
+{
+    printf("%s: the library gives %u, the inspector %u, for\n", options[s->subject], theirs, ours);
+    for (int k = 0; k < 3; k++)
+        for (size_t i = 0; i < inputs[k].len; i++)
+            printf("%02x%s", inputs[k].bytes[i], i % 4 == 3 || i + 1 == inputs[k].len ? "\n" : "");
+    exit(1);
+}
+
+/* A reply by itself is refused as in a bundle, and the bundle of it may lack more. */
+static void compare_alone(const struct sample *s, uint32_t number)
+{
+    struct span a = input(0);
+    if (s->subject != AS_FIRSTS && s->subject != AS_SECONDS)
+        return;
+    if (a.len < 4 || words_of(a) > MOWQACHI_REPLY_WORDS || length_of(word_at(a, 0)) != words_of(a))
+        return;
+    struct verdict v = check_file(a, s->subject == AS_FIRSTS ? FIRST : SECOND);
+    bool over_all = number == 0 || ((number == 7 || number == 14) && s->subject == AS_FIRSTS);
+    if (v.number == 0 ? !over_all : v.number != number)
+        disagree(s, number, v.number);
+}
+
+uint32_t compare(const struct sample *s)
+{
+    struct asked asked[3];
+    struct span found;
+    int count = lay_out(s);
+    uint32_t number = inspected(s).number;
+    for (int k = calls_for(s, asked) - 1; k >= 0; k--) {
+        uint32_t given = call(&asked[k], &found);
+        if (given != number)
+            disagree(s, given, number);
+        if (given == 0 && check_file(found, result_kinds[asked[k].call]).number != 0)
+            disagree(s, given, check_file(found, result_kinds[asked[k].call]).number);
+    }
+    compare_alone(s, number);
+    if (numbers[s->subject][number]++ % WRITTEN_EVERY < 2)
+        write_out(s, count, number);
+    return number;
+}
+
+void expect(const struct sample *s, uint32_t number)
+{
+    uint32_t got = compare(s);
+    if (got != number) {
+        printf("%s: document 01 has %u, the library gives %u\n", options[s->subject], (unsigned)number, (unsigned)got);
+        exit(1);
+    }
+}

@@ -1,0 +1,39 @@
+/* Samples: files given as something, read by the inspector's checks and by the library, whose numbers must be the same. */
+#ifndef COMPARE_H
+#define COMPARE_H
+
+#include <stddef.h>
+#include <stdint.h>
+
+enum { MOST = 8200 };
+
+/* What a sample is given as. */
+enum subject { AS_PART, AS_WHOLE, AS_PATH, AS_CALLS, AS_FIRSTS, AS_SECONDS, AS_CUT, AS_ASKED, SUBJECTS };
+
+/* The inspector's options for them. */
+extern const char *const options[SUBJECTS];
+
+struct file {
+    size_t count;
+    uint32_t words[MOST];
+};
+
+/* The files of a bundle stand one after another, and are one input; a cut list has a word for each byte. */
+struct sample {
+    enum subject subject;
+    uint32_t site;
+    int files;
+    struct file file[3];
+    size_t cut_off;     /* bytes taken off the end of the last input */
+};
+
+/* The library's number. Stops the program where the inspector's is another. */
+uint32_t compare(const struct sample *s);
+/* The same, and stops the program where it is not this one. */
+void expect(const struct sample *s, uint32_t number);
+
+/* Writes some of the samples from now on, and a list: number, option, files. */
+void write_into(const char *directory);
+void print_compared(void);
+
+#endif

@@ -1,0 +1,212 @@
+#include "describe.h"
+
+#include <stdio.h>
+
+#include "mowqachi.h"
+
+/* What a line needs to know besides its word. */
+struct place {
+    struct nodes own;   /* the nodes of the file's node words */
+    unsigned labels;    /* label words so far */
+};
+
+static void print_header(uint32_t w)
+{
+    unsigned kind = kind_of(w);
+    printf("%-12s ", file_name(kind));
+    if (kind == PART || kind == FIRST || kind == SECOND)
+        printf("site %u, ", site_of(w));
+    if (kind == PATH || kind == FIRST || kind == CALLS || kind == SECOND)
+        printf("n %u, ", n_of(w));
+    printf("%zu word%s", length_of(w), length_of(w) == 1 ? "" : "s");
+}
+
+static void print_label(uint32_t w, unsigned state)
+{
+    unsigned low, high;
+    printf("%-12s state %u, ", "label", state);
+    if (sort_of(w) == 0) {
+        printf("range %u to %u", low_of(w), high_of(w));
+    } else if (sort_of(w) == 1) {
+        group_ends(group_of(w), &low, &high);
+        printf("group %u, %u to %u", group_of(w), low, high);
+    } else {
+        printf("sort %u", sort_of(w));
+    }
+}
+
+static void print_part_word(uint32_t w, const struct nodes *own)
+{
+    if (kind_of(w) == NODE)
+        printf("%-12s %u%s%s", "node", node_of(w), door_bit(w) ? ", door" : "", root_bit(w) ? ", root" : "");
+    else
+        printf("%-12s label %u, target %u%s", "edge", label_of(w), node_of(w), has_node(own, node_of(w)) ? "" : ", outside");
+}
+
+static void print_reply_word(uint32_t w)
+{
+    switch (kind_of(w)) {
+    case DOOR: printf("%-12s %u%s", "door", node_of(w), door_root(w) ? ", root" : ""); break;
+    case ROW: printf("%-12s state %u", "row", state_of(w)); break;
+    case REACH: printf("%-12s node %u, state %u", "reach", pair_node(w), state_of(w)); break;
+    case CALL: printf("%-12s node %u, state %u", "call", pair_node(w), state_of(w)); break;
+    case ANSWER: printf("%-12s node %u", "answer", node_of(w)); break;
+    default: printf("kind 0"); break;
+    }
+}
+
+static void print_word(uint32_t w, size_t i, struct place *place)
+{
+    static const char *const operators[] = {"empty word", "then", "or", "star"};
+    printf("%5zu  %08x  ", i, (unsigned)w);
+    if (file_name(kind_of(w)) != NULL)
+        print_header(w);
+    else if (kind_of(w) == LABEL)
+        print_label(w, ++place->labels);
+    else if (kind_of(w) == OPERATOR)
+        printf("%-12s %s", "operator", operators[operator_of(w)]);
+    else if (kind_of(w) == NODE || kind_of(w) == EDGE)
+        print_part_word(w, &place->own);
+    else
+        print_reply_word(w);
+    printf("\n");
+}
+
+static void print_mark(struct verdict v, size_t i)
+{
+    if (v.number != 0 && v.at == i)
+        printf("       ^^^^^^^^  %u %s\n", v.number, number_name(v.number));
+}
+
+void print_words(struct span s, struct verdict v)
+{
+    struct place place = {.labels = 0};
+    size_t shown = words_of(s) < MOWQACHI_BUNDLE_WORDS ? words_of(s) : MOWQACHI_BUNDLE_WORDS;
+    collect(&place.own, s, NODE);
+    for (size_t i = 0; i < shown; i++) {
+        if (i > 0 && file_name(kind_of(word_at(s, i))) != NULL)
+            printf("\n");
+        print_word(word_at(s, i), i, &place);
+        print_mark(v, i);
+    }
+    if (shown < words_of(s))
+        printf("       and %zu words more\n", words_of(s) - shown);
+    for (size_t i = 4 * words_of(s); i < s.len; i++)
+        printf("%5zu  %02x        byte\n", words_of(s), s.bytes[i]);
+    if (v.at >= shown)
+        print_mark(v, v.at);
+}
+
+void print_verdict(struct verdict v, const char *unit, size_t count)
+{
+    if (v.number == 0)
+        printf("accepted\n");
+    else if (v.at < count)
+        printf("refused %u %s at %s %zu: %s\n", v.number, number_name(v.number), unit, v.at, v.why);
+    else
+        printf("refused %u %s at the end: %s\n", v.number, number_name(v.number), v.why);
+}
+
+/* How many words the operand that ends at word i has. */
+static size_t operand_words(struct span path, size_t i)
+{
+    size_t taken = 1;
+    for (unsigned k = operands_of(word_at(path, i)); k > 0; k--)
+        taken += operand_words(path, i - taken);
+    return taken;
+}
+
+static void print_label_set(uint32_t w)
+{
+    if (sort_of(w) == 1)
+        printf("group %u", group_of(w));
+    else if (low_of(w) == high_of(w))
+        printf("%u", low_of(w));
+    else
+        printf("%u to %u", low_of(w), high_of(w));
+}
+
+static void print_operand(struct span path, size_t i, bool bare);
+
+/* The two sides of an operator. A left side of the same operator needs no parentheses. */
+static void print_two(struct span path, size_t i, const char *name)
+{
+    size_t left = i - 1 - operand_words(path, i - 1);
+    print_operand(path, left, word_at(path, left) == word_at(path, i));
+    printf(" %s ", name);
+    print_operand(path, i - 1, false);
+}
+
+/* The operand that ends at word i, in parentheses unless bare. */
+static void print_operand(struct span path, size_t i, bool bare)
+{
+    uint32_t w = word_at(path, i);
+    bool two = operands_of(w) == 2;
+    printf("%s", two && !bare ? "(" : "");
+    if (kind_of(w) == LABEL) {
+        print_label_set(w);
+    } else if (two) {
+        print_two(path, i, operator_of(w) == 1 ? "then" : "or");
+    } else if (operator_of(w) == 3) {
+        print_operand(path, i - 1, false);
+        printf("*");
+    } else {
+        printf("empty word");
+    }
+    printf("%s", two && !bare ? ")" : "");
+}
+
+void print_expression(struct span path)
+{
+    printf("expression: ");
+    print_operand(path, words_of(path) - 1, true);
+    printf("\n");
+}
+
+void print_counts(struct span part)
+{
+    struct nodes own, met = {{0}};
+    size_t nodes = 0, doors = 0, edges = 0, outside = 0;
+    collect(&own, part, NODE);
+    for (size_t i = 1; i < words_of(part); i++) {
+        uint32_t w = word_at(part, i);
+        nodes += kind_of(w) == NODE;
+        doors += kind_of(w) == NODE && door_bit(w);
+        edges += kind_of(w) == EDGE;
+        if (kind_of(w) == EDGE && !has_node(&own, node_of(w)) && !has_node(&met, node_of(w))) {
+            add_node(&met, node_of(w));
+            outside++;
+        }
+    }
+    printf("nodes %zu, doors %zu, edges %zu, outside targets %zu\n", nodes, doors, edges, outside);
+}
+
+static void print_outside(struct span part)
+{
+    struct nodes done;
+    collect(&done, part, NODE);
+    for (size_t i = 1; i < words_of(part); i++) {
+        unsigned target = node_of(word_at(part, i));
+        if (kind_of(word_at(part, i)) == EDGE && !has_node(&done, target)) {
+            printf("    %u [style=dashed];\n", target);
+            add_node(&done, target);
+        }
+    }
+}
+
+void print_picture(struct span part)
+{
+    unsigned owner = 0;
+    printf("digraph part {\n    rankdir=LR;\n    label=\"site %u\";\n", site_of(word_at(part, 0)));
+    for (size_t i = 1; i < words_of(part); i++) {
+        uint32_t w = word_at(part, i);
+        if (kind_of(w) == NODE)
+            owner = node_of(w);
+        if (kind_of(w) == NODE)
+            printf("    %u [shape=%s];\n", owner, root_bit(w) ? "doubleoctagon" : door_bit(w) ? "box" : "ellipse");
+        else
+            printf("    %u -> %u [label=\"%u\"];\n", owner, node_of(w), label_of(w));
+    }
+    print_outside(part);
+    printf("}\n");
+}

@@ -1,0 +1,18 @@
+/* Files in words that a person reads. */
+#ifndef DESCRIBE_H
+#define DESCRIBE_H
+
+#include "checks.h"
+
+/* The words of s, one a line, with the verdict's mark under its word, and a blank line ahead of every further header. */
+void print_words(struct span s, struct verdict v);
+/* The last line of a report on so many words or bytes. */
+void print_verdict(struct verdict v, const char *unit, size_t count);
+/* An accepted path as an expression. */
+void print_expression(struct span path);
+/* What an accepted part has. */
+void print_counts(struct span part);
+/* An accepted part as a Graphviz picture. */
+void print_picture(struct span part);
+
+#endif

@@ -1,0 +1,203 @@
+/* The inspector: a file of document 01 word by word, and the first check that fails. Its exit code is the refusal's number, 0 for an accepted
+   file, and 64 where there is nothing to inspect. */
+#include <ctype.h>
+#include <errno.h>
+#include <stdio.h>
+#include <stdlib.h>
+#include <string.h>
+
+#include "checks.h"
+#include "describe.h"
+
+enum { NOTHING = 64, MOST_BYTES = 1 << 20 };
+
+static const char usage[] =
+    "usage: inspect [--hex] [AS] FILE              a file or a bundle\n"
+    "       inspect [--hex] --cut WHOLE CUT        a cut list beside its whole\n"
+    "       inspect [--hex] --asked PART PATH LIST a call list beside the part and path of the site asked\n"
+    "       inspect [--hex] --dot FILE             a part as a Graphviz picture\n"
+    "AS tells what the file should be; without it the header tells:\n"
+    "       --part --whole --path --calls --list   one file\n"
+    "       --firsts --seconds                     a bundle of replies, checked over all files too\n"
+    "       --files                                files one after another, each by itself\n"
+    "--hex: the input is text, words in hexadecimal (a cut list: numbers of bytes). FILE may be -, for standard input.\n";
+
+static _Noreturn void give_up(const char *what, const char *why)
+{
+    fprintf(stderr, "inspect: %s: %s\n", what, why);
+    exit(NOTHING);
+}
+
+static struct span read_bytes(const char *name)
+{
+    FILE *f = strcmp(name, "-") == 0 ? stdin : fopen(name, "rb");
+    uint8_t *bytes = malloc(MOST_BYTES + 1);
+    if (f == NULL || bytes == NULL)
+        give_up(name, strerror(errno));
+    size_t len = fread(bytes, 1, MOST_BYTES + 1, f);
+    if (ferror(f))
+        give_up(name, "cannot be read");
+    if (len > MOST_BYTES)
+        give_up(name, "is over a mebibyte, and no file of document 01");
+    if (f != stdin)
+        fclose(f);
+    return (struct span){bytes, len};
+}
+
+/* The hexadecimal numbers of a text, in `width` bytes each. */
+static struct span read_hex(const char *name, size_t width)
+{
+    struct span text = read_bytes(name);
+    uint8_t *bytes = malloc(width * text.len + 1);
+    size_t len = 0, digits = 0;
+    uint32_t number = 0;
+    if (bytes == NULL)
+        give_up(name, strerror(errno));
+    for (size_t i = 0; i <= text.len; i++) {
+        int c = i < text.len ? text.bytes[i] : ' ';
+        if (isxdigit(c)) {
+            number = 16 * number + (uint32_t)(isdigit(c) ? c - '0' : tolower(c) - 'a' + 10);
+            digits++;
+        } else if (!isspace(c)) {
+            give_up(name, "has a character that is no hexadecimal digit");
+        } else if (digits > 2 * width) {
+            give_up(name, "has a number with too many digits");
+        } else if (digits > 0) {
+            for (size_t k = 0; k < width; k++)
+                bytes[len++] = (uint8_t)(number >> 8 * k);
+            number = 0;
+            digits = 0;
+        }
+    }
+    free((void *)text.bytes);
+    return (struct span){bytes, len};
+}
+
+/* The report of one file: its words, what there is to say of an accepted one, and the verdict. */
+static unsigned report(struct span s, struct verdict v)
+{
+    print_words(s, v);
+    if (v.number == 0 && kind_of(word_at(s, 0)) == PATH)
+        print_expression(s);
+    if (v.number == 0 && kind_of(word_at(s, 0)) == PART)
+        print_counts(s);
+    print_verdict(v, "word", words_of(s));
+    return v.number;
+}
+
+static unsigned as_part(const struct span *in) { return report(in[0], check_file(in[0], PART)); }
+static unsigned as_whole(const struct span *in) { return report(in[0], check_whole(in[0])); }
+static unsigned as_path(const struct span *in) { return report(in[0], check_file(in[0], PATH)); }
+static unsigned as_calls(const struct span *in) { return report(in[0], check_file(in[0], CALLS)); }
+static unsigned as_list(const struct span *in) { return report(in[0], check_file(in[0], LIST)); }
+static unsigned as_firsts(const struct span *in) { return report(in[0], check_bundle(in[0], FIRST)); }
+static unsigned as_seconds(const struct span *in) { return report(in[0], check_bundle(in[0], SECOND)); }
+
+/* What the header says. A reply that fills its file stands by itself; words behind it make the file a bundle. */
+static unsigned by_header(const struct span *in)
+{
+    uint32_t header = words_of(in[0]) > 0 ? word_at(in[0], 0) : 0;
+    unsigned kind = kind_of(header);
+    if (file_name(kind) == NULL) {
+        struct verdict v = check_file(in[0], PART);
+        if (v.number == 3)
+            v.why = "the first word is no header";
+        return report(in[0], v);
+    }
+    if ((kind == FIRST || kind == SECOND) && length_of(header) != words_of(in[0]))
+        return report(in[0], check_bundle(in[0], kind));
+    return report(in[0], check_file(in[0], kind));
+}
+
+/* Each file by itself, up to the first that is refused; what its header cannot bound goes with it. */
+static unsigned as_files(const struct span *in)
+{
+    struct span rest = in[0];
+    unsigned number;
+    do {
+        size_t length = words_of(rest) > 0 ? length_of(word_at(rest, 0)) : 0;
+        bool bounded = length > 0 && length < words_of(rest);
+        struct span one = bounded ? upto(rest, length) : rest;
+        number = by_header(&one);
+        rest = (struct span){rest.bytes + one.len, rest.len - one.len};
+        if (rest.len > 0)
+            printf("\n");
+    } while (number == 0 && rest.len > 0);
+    return number;
+}
+
+static unsigned as_picture(const struct span *in)
+{
+    struct verdict v = check_file(in[0], PART);
+    if (v.number == 0)
+        print_picture(in[0]);
+    else
+        fprintf(stderr, "refused %u %s at word %zu: %s\n", v.number, number_name(v.number), v.at, v.why);
+    return v.number;
+}
+
+static unsigned as_cut(const struct span *in)
+{
+    struct verdict v = check_whole(in[0]);
+    size_t k = 0;
+    if (v.number != 0)
+        return report(in[0], v);
+    v = check_cuts(in[0], in[1], 0);
+    for (size_t i = 1; i < words_of(in[0]) && k < in[1].len; i++)
+        if (kind_of(word_at(in[0], i)) == NODE) {
+            printf("%5zu  %02x        node %u at site %u\n", k, in[1].bytes[k], node_of(word_at(in[0], i)), in[1].bytes[k]);
+            k++;
+        }
+    print_verdict(v, "byte", in[1].len);
+    return v.number;
+}
+
+static unsigned as_asked(const struct span *in)
+{
+    struct verdict part = check_file(in[0], PART), path = check_file(in[1], PATH), calls = check_file(in[2], CALLS);
+    if (part.number != 0)
+        return report(in[0], part);
+    if (path.number != 0)
+        return report(in[1], path);
+    return report(in[2], calls.number != 0 ? calls : check_against(in[0], in[1], in[2]));
+}
+
+static const struct mode {
+    const char *option;
+    int files;
+    unsigned (*run)(const struct span *in);
+} modes[] = {
+    {"--part", 1, as_part}, {"--whole", 1, as_whole}, {"--path", 1, as_path}, {"--calls", 1, as_calls}, {"--list", 1, as_list},
+    {"--firsts", 1, as_firsts}, {"--seconds", 1, as_seconds}, {"--files", 1, as_files}, {"--dot", 1, as_picture},
+    {"--cut", 2, as_cut}, {"--asked", 3, as_asked},
+};
+
+static struct mode mode_of(const char *option)
+{
+    for (size_t i = 0; i < sizeof modes / sizeof *modes; i++)
+        if (strcmp(option, modes[i].option) == 0)
+            return modes[i];
+    return (struct mode){NULL, 1, by_header};
+}
+
+int main(int argc, char **argv)
+{
+    struct span in[3] = {{NULL, 0}};
+    int next = 1;
+    bool hex = next < argc && strcmp(argv[next], "--hex") == 0;
+    next += hex;
+    struct mode mode = mode_of(next < argc ? argv[next] : "");
+    next += mode.option != NULL;
+    if (argc - next != mode.files || strncmp(argv[next], "--", 2) == 0) {
+        fputs(usage, stderr);
+        return NOTHING;
+    }
+    for (int k = 0; k < mode.files; k++) {
+        bool bytes = mode.run == as_cut && k == 1;
+        in[k] = hex ? read_hex(argv[next + k], bytes ? 1 : 4) : read_bytes(argv[next + k]);
+    }
+    unsigned number = mode.run(in);
+    for (int k = 0; k < mode.files; k++)
+        free((void *)in[k].bytes);
+    return (int)number;
+}

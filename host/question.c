@@ -1,0 +1,101 @@
+/* One question from end to end, as a host asks it: document 01's whole W, cut at 0, 1, 0, and its path P. Each site and the hub are played
+   in turn; the joined list must be the old search's. Prints every file that goes over a line. */
+#include <inttypes.h>
+#include <stdio.h>
+#include <stdlib.h>
+#include <string.h>
+
+#include "mowqachi.h"
+
+enum { SITES = 2 };
+
+/* A file in a buffer that is long enough for any output; len is what is handed on. */
+struct file {
+    size_t len;
+    uint8_t bytes[MOWQACHI_LIST_BYTES];
+};
+
+static struct file whole, path, parts[SITES], firsts[SITES], calls, seconds[SITES], bundle, joined, old;
+static const uint8_t cuts[] = {0, 1, 0};
+static uint8_t work[MOWQACHI_WORK_BYTES];
+
+static void put_words(struct file *f, const uint32_t *words, size_t count)
+{
+    for (size_t i = 0; i < 4 * count; i++)
+        f->bytes[i] = (uint8_t)(words[i / 4] >> 8 * (i % 4));
+    f->len = 4 * count;
+}
+
+static void print_file(const char *name, const struct file *f)
+{
+    printf("%s:", name);
+    for (size_t i = 0; i < f->len; i += 4)
+        printf(" %02x%02x%02x%02x", f->bytes[i + 3], f->bytes[i + 2], f->bytes[i + 1], f->bytes[i]);
+    printf("\n");
+}
+
+/* What a host does after every call: a refusal ends the question, an output is handed on at its length. */
+static void take(const char *name, uint32_t number, struct file *f)
+{
+    if (number != MOWQACHI_ACCEPTED) {
+        printf("%s: refused %" PRIu32 "\n", name, number);
+        exit(1);
+    }
+    f->len = mowqachi_file_bytes(f->bytes);
+    print_file(name, f);
+}
+
+/* Two replies always fit a bundle; a host with more sites looks whether they do. */
+static void bundle_up(const struct file *files)
+{
+    bundle.len = 0;
+    for (int s = 0; s < SITES; s++) {
+        memcpy(bundle.bytes + bundle.len, files[s].bytes, files[s].len);
+        bundle.len += files[s].len;
+    }
+}
+
+static void cut_whole(void)
+{
+    for (uint32_t s = 0; s < SITES; s++)
+        take("part", mowqachi_cut(whole.bytes, whole.len, cuts, sizeof cuts, s, parts[s].bytes, sizeof parts[s].bytes, work, sizeof work),
+             &parts[s]);
+}
+
+static void first_trip(void)
+{
+    for (int s = 0; s < SITES; s++)
+        take("first reply", mowqachi_first_reply(parts[s].bytes, parts[s].len, path.bytes, path.len,
+                                                 firsts[s].bytes, sizeof firsts[s].bytes, work, sizeof work), &firsts[s]);
+    bundle_up(firsts);
+    take("call list", mowqachi_call_list(bundle.bytes, bundle.len, calls.bytes, sizeof calls.bytes, work, sizeof work), &calls);
+}
+
+static void second_trip(void)
+{
+    for (int s = 0; s < SITES; s++)
+        take("second reply", mowqachi_second_reply(parts[s].bytes, parts[s].len, path.bytes, path.len, calls.bytes, calls.len,
+                                                   seconds[s].bytes, sizeof seconds[s].bytes, work, sizeof work), &seconds[s]);
+    bundle_up(seconds);
+    take("final list", mowqachi_join(bundle.bytes, bundle.len, joined.bytes, sizeof joined.bytes, work, sizeof work), &joined);
+}
+
+int main(void)
+{
+    static const uint32_t w[] = {0x10000007, 0x20030001, 0x30050002, 0x20000002, 0x30060003, 0x20000003, 0x30050002};
+    static const uint32_t p[] = {0x40300007, 0x50005005, 0x50006006, 0x50005005, 0x60000001, 0x60000003, 0x60000001};
+    put_words(&whole, w, sizeof w / sizeof *w);
+    put_words(&path, p, sizeof p / sizeof *p);
+    print_file("whole", &whole);
+    print_file("path", &path);
+    cut_whole();
+    first_trip();
+    second_trip();
+    take("old search", mowqachi_old_search(whole.bytes, whole.len, path.bytes, path.len, old.bytes, sizeof old.bytes, work, sizeof work), &old);
+    if (memcmp(joined.bytes, old.bytes, sizeof old.bytes) != 0) {
+        printf("the two lists differ\n");
+        return 1;
+    }
+    printf("the joined list is the old search's\n");
+    return 0;
+}

@@ -1,0 +1,278 @@
+/* Every call on a stack of 64 KiB with a guard page below it, on the heaviest inputs: an overrun would end the program. The stack is painted
+   ahead of a call, and afterwards the deepest byte that lost its paint tells how far the call went. Then all calls again, at once, each on a
+   stack and buffers of its own, with the same outputs. */
+#define _GNU_SOURCE
+#include <pthread.h>
+#include <stdio.h>
+#include <stdlib.h>
+#include <string.h>
+#include <sys/mman.h>
+
+#include "calls.h"
+
+/* No call may need more than BOUND bytes: docs/CALLS.md says so. */
+enum { STACK = 65536, GUARD = 4096, PAINT = 0xc3, RED_ZONE = 128, BOUND = 2048, MOST_JOBS = 32 };
+
+struct file {
+    size_t len;
+    uint8_t bytes[4 * MOWQACHI_BUNDLE_WORDS];
+};
+
+/* A call to be made on the small stack, and what came of it. */
+struct job {
+    struct asked asked;
+    uint32_t expected, number;
+    size_t depth;
+    uint8_t *low;       /* of the stack */
+    uint8_t *out, *work;
+    pthread_t thread;
+};
+
+static struct job jobs[MOST_JOBS];
+static int job_count;
+
+static uint32_t draw(uint32_t below)
+{
+    static uint32_t state = 88675123u;
+    state ^= state << 13;
+    state ^= state >> 17;
+    state ^= state << 5;
+    return state % below;
+}
+
+static _Noreturn void fail(const char *what)
+{
+    printf("%s\n", what);
+    exit(1);
+}
+
+static void *get(size_t len)
+{
+    void *bytes = malloc(len);
+    if (bytes == NULL)
+        fail("no memory");
+    return bytes;
+}
+
+static void push(struct file *f, uint32_t w)
+{
+    for (int k = 0; k < 4; k++)
+        f->bytes[f->len++] = (uint8_t)(w >> 8 * k);
+}
+
+/* Ends the file that begins at byte `from`: writes its header. */
+static void end_file(struct file *f, size_t from, uint32_t header)
+{
+    size_t end = f->len;
+    f->len = from;
+    push(f, header + (uint32_t)(end - from) / 4);
+    f->len = end;
+}
+
+/* Nodes from 0 upward, all of them doors, node 0 the root, each with so many links on label 0 to nodes below `targets`: a part of at most
+   4,096 words. */
+static void fill_part(struct file *f, uint32_t links, uint32_t targets)
+{
+    uint32_t nodes = (MOWQACHI_PART_WORDS - 1) / (links + 1);
+    f->len = 4;
+    for (uint32_t x = 0; x < nodes; x++) {
+        push(f, (x == 0 ? 0x20030000 : 0x20010000) + x);
+        for (uint32_t k = 0; k < links; k++)
+            push(f, 0x30000000 + k * (targets / links) + draw(targets / links));
+    }
+    end_file(f, 0, 0x10000000);
+}
+
+/* One door, and as many outside targets as fit, met in descending order: the dearest to keep in order. */
+static void fill_outside(struct file *f)
+{
+    f->len = 4;
+    push(f, 0x20010000);
+    for (uint32_t i = 0; i < MOWQACHI_PART_WORDS - 2; i++)
+        push(f, 0x30000000 + (i << 16) + (60000 - i));
+    end_file(f, 0, 0x10000000);
+}
+
+/* 64 words and 15 labels: full ranges and an empty word that all wait, then operators, then stars. */
+static void fill_path(struct file *f, uint32_t operator)
+{
+    f->len = 4;
+    for (int i = 0; i < MOWQACHI_PATH_LABELS; i++)
+        push(f, 0x50fff000);
+    push(f, 0x60000000);
+    for (int i = 0; i < MOWQACHI_PATH_LABELS; i++)
+        push(f, operator);
+    while (f->len < 4 * MOWQACHI_PATH_WORDS)
+        push(f, 0x60000003);
+    end_file(f, 0, 0x40f00000);
+}
+
+/* Two replies of doors in a chain: each door's row leads to the door before, so that the hub's search goes back and forth. */
+static void fill_chain(struct file *f)
+{
+    uint32_t each = (MOWQACHI_REPLY_WORDS - 1) / 3;
+    f->len = 0;
+    for (uint32_t site = 0; site < 2; site++) {
+        size_t from = f->len;
+        f->len += 4;
+        for (uint32_t x = site * each; x < (site + 1) * each; x++) {
+            push(f, (x + 1 == 2 * each ? 0x80010000 : 0x80000000) + x);
+            push(f, 0x90000000);
+            push(f, 0xa0000000 + 16 * (x == 0 ? 0 : x - 1));
+        }
+        end_file(f, from, 0x70f00000 + (site << 24));
+    }
+}
+
+/* A root that reaches 255 doors in all states, and at most 4,096 words of doors behind it. */
+static void fill_wide(struct file *f)
+{
+    f->len = 4;
+    push(f, 0x80010000);
+    push(f, 0x90000000);
+    for (uint32_t c = 16; c < 16 * 256; c++)
+        push(f, 0xa0000000 + c);
+    end_file(f, 0, 0x70f00000);
+    size_t from = f->len;
+    f->len += 4;
+    for (uint32_t x = 1; x < MOWQACHI_REPLY_WORDS; x++)
+        push(f, 0x80000000 + x);
+    end_file(f, from, 0x71f00000);
+}
+
+/* Words of a kind that go up by one: a call list, or a second reply. */
+static void fill_words(struct file *f, uint32_t header, uint32_t first)
+{
+    size_t from = f->len;
+    f->len += 4;
+    for (uint32_t i = 0; i + 1 < MOWQACHI_REPLY_WORDS; i++)
+        push(f, first + i);
+    end_file(f, from, header);
+}
+
+static struct span span_of(const struct file *f)
+{
+    return (struct span){f->bytes, f->len};
+}
+
+static void add(enum call call, uint32_t expected, struct span a, struct span b, struct span c)
+{
+    jobs[job_count++] = (struct job){.asked = {call, {a, b, c}, 0}, .expected = expected};
+}
+
+static void add_searches(void)
+{
+    static struct file loops, ring, reply, outside, ors, thens, calls;
+    static uint8_t cuts[MOWQACHI_PART_WORDS];
+    const struct span none = {NULL, 0};
+    fill_part(&loops, 2, 1365);
+    fill_part(&ring, 1, 2047);
+    fill_part(&reply, 3, 60000);
+    fill_outside(&outside);
+    fill_path(&ors, 0x60000002);
+    fill_path(&thens, 0x60000001);
+    fill_words(&calls, 0xb0f00000, 0xc0000000);
+    for (size_t i = 0; i < sizeof cuts; i++)
+        cuts[i] = (uint8_t)draw(MOWQACHI_SITES);
+    add(OLD_SEARCH, 0, span_of(&loops), span_of(&ors), none);
+    add(OLD_SEARCH, 0, span_of(&ring), span_of(&thens), none);
+    add(CUT, 0, span_of(&loops), (struct span){cuts, 1365}, none);
+    add(CUT, 0, span_of(&ring), (struct span){cuts, 2047}, none);
+    add(FIRST_REPLY, 0, span_of(&loops), span_of(&ors), none);
+    add(FIRST_REPLY, 0, span_of(&ring), span_of(&thens), none);
+    add(FIRST_REPLY, MOWQACHI_RESULT, span_of(&reply), span_of(&ors), none);
+    add(FIRST_REPLY, MOWQACHI_RESULT, span_of(&outside), span_of(&thens), none);
+    add(SECOND_REPLY, 0, span_of(&loops), span_of(&ors), span_of(&calls));
+    add(SECOND_REPLY, 0, span_of(&ring), span_of(&thens), span_of(&calls));
+    add(SECOND_REPLY, 0, span_of(&outside), span_of(&ors), span_of(&calls));
+}
+
+static void add_bundles(void)
+{
+    static struct file chain, wide, answers;
+    const struct span none = {NULL, 0};
+    fill_chain(&chain);
+    fill_wide(&wide);
+    fill_words(&answers, 0xd0f00000, 0xe0000000);
+    fill_words(&answers, 0xdff00000, 0xe000f000);
+    add(CALL_LIST, 0, span_of(&chain), none, none);
+    add(CALL_LIST, 0, span_of(&wide), none, none);
+    add(JOIN, 0, span_of(&answers), none, none);
+}
+
+/* Paints the stack below this frame, makes the call, and looks for the deepest byte that changed. */
+static void *run(void *argument)
+{
+    struct job *job = argument;
+    uint8_t *here;
+    __asm__ volatile("mov %%rsp, %0" : "=r"(here));
+    for (volatile uint8_t *p = job->low; p < here - RED_ZONE; p++)
+        *p = PAINT;
+    job->number = invoke(&job->asked, job->out, output_bytes(job->asked.call), job->work, MOWQACHI_WORK_BYTES);
+    const volatile uint8_t *p = job->low;
+    while (p < here && *p == PAINT)
+        p++;
+    job->depth = (size_t)(here - p);
+    return NULL;
+}
+
+static void start(struct job *job)
+{
+    pthread_attr_t attributes;
+    uint8_t *block = mmap(NULL, STACK + GUARD, PROT_READ | PROT_WRITE, MAP_PRIVATE | MAP_ANONYMOUS, -1, 0);
+    if (block == MAP_FAILED || mprotect(block, GUARD, PROT_NONE) != 0)
+        fail("no stack");
+    job->low = block + GUARD;
+    job->out = get(output_bytes(job->asked.call));
+    job->work = get(MOWQACHI_WORK_BYTES);
+    if (pthread_attr_init(&attributes) != 0 || pthread_attr_setstack(&attributes, job->low, STACK) != 0 ||
+        pthread_create(&job->thread, &attributes, run, job) != 0)
+        fail("no thread");
+    pthread_attr_destroy(&attributes);
+}
+
+static void finish(struct job *job)
+{
+    if (pthread_join(job->thread, NULL) != 0 || munmap(job->low - GUARD, STACK + GUARD) != 0)
+        fail("no end of a thread");
+    if (job->number != job->expected)
+        fail("another number than expected");
+    if (job->depth >= BOUND)
+        fail("more stack than docs/CALLS.md says");
+    free(job->work);
+}
+
+static void report(void)
+{
+    for (int c = 0; c < CALL_COUNT; c++) {
+        size_t deepest = 0;
+        for (int k = 0; k < job_count; k++)
+            if (jobs[k].asked.call == (enum call)c && jobs[k].depth > deepest)
+                deepest = jobs[k].depth;
+        printf("%-12s %5zu bytes of stack\n", call_names[c], deepest);
+    }
+}
+
+int main(void)
+{
+    static struct job again[MOST_JOBS];
+    add_searches();
+    add_bundles();
+    for (int k = 0; k < job_count; k++) {
+        start(&jobs[k]);
+        finish(&jobs[k]);
+    }
+    report();
+    memcpy(again, jobs, sizeof again);
+    for (int k = 0; k < job_count; k++)
+        start(&again[k]);
+    for (int k = 0; k < job_count; k++) {
+        finish(&again[k]);
+        if (memcmp(again[k].out, jobs[k].out, output_bytes(jobs[k].asked.call)) != 0)
+            fail("another output in a call beside others");
+        free(again[k].out);
+        free(jobs[k].out);
+    }
+    printf("%d calls at once: the same outputs\n", job_count);
+    return 0;
+}

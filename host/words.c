@@ -1,0 +1,78 @@
+#include "words.h"
+
+#include <string.h>
+
+size_t words_of(struct span s)
+{
+    return s.len / 4;
+}
+
+uint32_t word_at(struct span s, size_t i)
+{
+    const uint8_t *b = s.bytes + 4 * i;
+    return b[0] | (uint32_t)b[1] << 8 | (uint32_t)b[2] << 16 | (uint32_t)b[3] << 24;
+}
+
+uint32_t bits(uint32_t w, unsigned high, unsigned low)
+{
+    return w >> low & (0xffffffffu >> (31 - (high - low)));
+}
+
+struct span from(struct span s, size_t i)
+{
+    return (struct span){s.bytes + 4 * i, s.len - 4 * i};
+}
+
+struct span upto(struct span s, size_t count)
+{
+    return (struct span){s.bytes, 4 * count};
+}
+
+unsigned kind_of(uint32_t w) { return bits(w, 31, 28); }
+unsigned site_of(uint32_t header) { return bits(header, 27, 24); }
+unsigned n_of(uint32_t header) { return bits(header, 23, 20); }
+size_t length_of(uint32_t header) { return bits(header, 13, 0); }
+unsigned node_of(uint32_t w) { return bits(w, 15, 0); }
+bool door_bit(uint32_t node) { return bits(node, 16, 16); }
+bool root_bit(uint32_t node) { return bits(node, 17, 17); }
+bool door_root(uint32_t door) { return bits(door, 16, 16); }
+unsigned label_of(uint32_t edge) { return bits(edge, 27, 16); }
+unsigned sort_of(uint32_t label) { return bits(label, 27, 24); }
+unsigned low_of(uint32_t range) { return bits(range, 11, 0); }
+unsigned high_of(uint32_t range) { return bits(range, 23, 12); }
+unsigned group_of(uint32_t group) { return bits(group, 2, 0); }
+unsigned operator_of(uint32_t w) { return bits(w, 1, 0); }
+unsigned pair_node(uint32_t w) { return bits(w, 19, 4); }
+unsigned state_of(uint32_t w) { return bits(w, 3, 0); }
+
+unsigned operands_of(uint32_t expression)
+{
+    static const unsigned taken[] = {0, 2, 2, 1};
+    return kind_of(expression) == OPERATOR ? taken[operator_of(expression)] : 0;
+}
+
+void group_ends(unsigned group, unsigned *low, unsigned *high)
+{
+    static const unsigned ends[8][2] = {
+        {0, 4095}, {0, 1023}, {0, 255}, {1024, 1535}, {1536, 1791}, {1792, 2047}, {2048, 3071}, {4032, 4095}};
+    *low = ends[group][0];
+    *high = ends[group][1];
+}
+
+void add_node(struct nodes *set, unsigned x)
+{
+    set->bits[x / 8] |= (uint8_t)(1u << x % 8);
+}
+
+bool has_node(const struct nodes *set, unsigned x)
+{
+    return set->bits[x / 8] >> x % 8 & 1;
+}
+
+void collect(struct nodes *set, struct span s, unsigned kind)
+{
+    memset(set, 0, sizeof *set);
+    for (size_t i = 0; i < words_of(s); i++)
+        if (kind_of(word_at(s, i)) == kind)
+            add_node(set, node_of(word_at(s, i)));
+}

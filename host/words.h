@@ -1,0 +1,57 @@
+/* The words and fields of document 01's files. */
+#ifndef WORDS_H
+#define WORDS_H
+
+#include <stdbool.h>
+#include <stddef.h>
+#include <stdint.h>
+
+enum kind {
+    PART = 0x1, NODE = 0x2, EDGE = 0x3, PATH = 0x4, LABEL = 0x5, OPERATOR = 0x6, FIRST = 0x7, DOOR = 0x8,
+    ROW = 0x9, REACH = 0xa, CALLS = 0xb, CALL = 0xc, SECOND = 0xd, ANSWER = 0xe, LIST = 0xf
+};
+
+/* A stretch of bytes. Its words are the whole fours of it. */
+struct span {
+    const uint8_t *bytes;
+    size_t len;
+};
+
+/* One bit for each node. */
+struct nodes {
+    uint8_t bits[8192];
+};
+
+size_t words_of(struct span s);
+uint32_t word_at(struct span s, size_t i);
+uint32_t bits(uint32_t w, unsigned high, unsigned low);
+/* From word i on, and the first count words. */
+struct span from(struct span s, size_t i);
+struct span upto(struct span s, size_t count);
+
+unsigned kind_of(uint32_t w);
+unsigned site_of(uint32_t header);
+unsigned n_of(uint32_t header);
+size_t length_of(uint32_t header);
+unsigned node_of(uint32_t w);     /* of a node, door or answer word; an edge's target */
+bool door_bit(uint32_t node);
+bool root_bit(uint32_t node);
+bool door_root(uint32_t door);
+unsigned label_of(uint32_t edge);
+unsigned sort_of(uint32_t label);
+unsigned low_of(uint32_t range);
+unsigned high_of(uint32_t range);
+unsigned group_of(uint32_t group);
+unsigned operator_of(uint32_t w);
+unsigned operands_of(uint32_t expression);
+unsigned pair_node(uint32_t w);   /* of a reach or call word */
+unsigned state_of(uint32_t w);    /* of a row, reach or call word */
+
+void group_ends(unsigned group, unsigned *low, unsigned *high);
+
+void add_node(struct nodes *set, unsigned x);
+bool has_node(const struct nodes *set, unsigned x);
+/* The nodes of the words of one kind. */
+void collect(struct nodes *set, struct span s, unsigned kind);
+
+#endif

@@ -1,0 +1,106 @@
+/* The split link search, for a C11 or C++ host. docs/CALLS.md tells which call belongs where; document 01 is the law.
+
+   Buffers. A length is in bytes. Any alignment will do. Inputs are only read, and may overlap one another. The output and the working
+   buffer overlap nothing: neither each other nor an input. A pointer is never null: where a length is 0, pass the address of any object.
+   What output and working buffer hold before a call does not matter. Longer ones than asked for are fine, of any length. During a call no
+   other thread changes its inputs or touches its other buffers.
+
+   After a call. At 0 the output begins with the result, a file whose first word tells its length (mowqachi_file_bytes), and is zero past
+   it. At any other number it is zero from end to end. The working buffer is zero after every call, to its full length.
+
+   Order of checks: 1; then the inputs in the order of the parameters; then 15. In one input 2, 3, 4, then word by word 5, 10, 6, 7, 9,
+   then at its end 5, 7, 8, 9. A cut list has only 11, and so has the site asked, after it. In a bundle 2, then file by file as above,
+   then over all files 12, 7, 13, 14. A call list by itself, then 12 against the path and 14 against the part. The first check that fails
+   gives the number. */
+#ifndef MOWQACHI_H
+#define MOWQACHI_H
+
+#include <stddef.h>
+#include <stdint.h>
+
+#ifdef __cplusplus
+extern "C" {
+#endif
+
+/* The words of a file or bundle, at most. A word is four bytes, the lowest first. */
+#define MOWQACHI_PART_WORDS 4096   /* parts and wholes */
+#define MOWQACHI_PATH_WORDS 64
+#define MOWQACHI_REPLY_WORDS 4096  /* first and second replies */
+#define MOWQACHI_CALLS_WORDS 4096  /* call lists */
+#define MOWQACHI_BUNDLE_WORDS 8192
+#define MOWQACHI_LIST_WORDS 8192   /* final lists */
+
+/* The bytes of an output, at least. */
+#define MOWQACHI_PART_BYTES 16384  /* mowqachi_cut */
+#define MOWQACHI_REPLY_BYTES 16384 /* mowqachi_first_reply, mowqachi_second_reply */
+#define MOWQACHI_CALLS_BYTES 16384 /* mowqachi_call_list */
+#define MOWQACHI_LIST_BYTES 32768  /* mowqachi_old_search, mowqachi_join */
+
+/* The bytes of the working buffer, at least, in every call. */
+#define MOWQACHI_WORK_BYTES 32768
+
+/* How many there are: sites 0 to 15, states 0 to 15, labels 0 to 4,095, nodes 0 to 65,535. */
+#define MOWQACHI_SITES 16
+#define MOWQACHI_STATES 16
+#define MOWQACHI_LABELS 4096
+#define MOWQACHI_NODES 65536
+
+/* In a path: label words at most, and operands that wait at any word at most. */
+#define MOWQACHI_PATH_LABELS 15
+#define MOWQACHI_WAITING 16
+
+/* What a call gives. */
+enum mowqachi_number {
+    MOWQACHI_ACCEPTED = 0,
+    MOWQACHI_BUFFER = 1,   /* output or working buffer too short */
+    MOWQACHI_SIZE = 2,     /* no words, over the limit, or bytes not in fours */
+    MOWQACHI_HEADER = 3,   /* header of another kind, or with a zero bit set */
+    MOWQACHI_LENGTH = 4,   /* header's length wrong; in a bundle 0, over 4,096 or past the end */
+    MOWQACHI_WORD = 5,     /* word not allowed there, zero bit set, low end above high, row without reach words */
+    MOWQACHI_ORDER = 6,    /* not strictly ascending */
+    MOWQACHI_ROOT = 7,     /* root without door; second root; whole or first bundle without root */
+    MOWQACHI_TARGET = 8,   /* whole: target not a node */
+    MOWQACHI_OPERAND = 9,  /* operand missing, 17 waiting, not one left, label words not n */
+    MOWQACHI_STATE = 10,   /* state above the file's n */
+    MOWQACHI_CUT = 11,     /* cut list's length or a byte above 15; site asked above 15 */
+    MOWQACHI_BUNDLE = 12,  /* site twice or different n in a bundle; call list's n not the path's */
+    MOWQACHI_TWICE = 13,   /* a door or answer node in two files */
+    MOWQACHI_DOOR = 14,    /* a reach word's node is no door of the bundle; a called node of the part is no door */
+    MOWQACHI_RESULT = 15   /* result over its limit */
+};
+
+/* The bytes of the file that begins here, from its header: what a host hands on of an output. */
+static inline size_t mowqachi_file_bytes(const uint8_t *file)
+{
+    return 4u * (file[0] + 256u * (file[1] & 0x3fu));
+}
+
+/* The old search: the final list of a whole plant and a path. Output: MOWQACHI_LIST_BYTES. */
+uint32_t mowqachi_old_search(const uint8_t *whole, size_t whole_len, const uint8_t *path, size_t path_len,
+                             uint8_t *out, size_t out_len, uint8_t *work, size_t work_len);
+
+/* The cutter: a site's part of a whole plant. cuts has one byte for each node word of the whole, in order: the node's site.
+   Output: MOWQACHI_PART_BYTES. */
+uint32_t mowqachi_cut(const uint8_t *whole, size_t whole_len, const uint8_t *cuts, size_t cuts_len, uint32_t site,
+                      uint8_t *out, size_t out_len, uint8_t *work, size_t work_len);
+
+/* First trip, at a site: what walks from its doors reach outside its part. Output: MOWQACHI_REPLY_BYTES. */
+uint32_t mowqachi_first_reply(const uint8_t *part, size_t part_len, const uint8_t *path, size_t path_len,
+                              uint8_t *out, size_t out_len, uint8_t *work, size_t work_len);
+
+/* First trip, at the hub: the call list of a bundle of first replies, one after another. Output: MOWQACHI_CALLS_BYTES. */
+uint32_t mowqachi_call_list(const uint8_t *bundle, size_t bundle_len, uint8_t *out, size_t out_len, uint8_t *work, size_t work_len);
+
+/* Second trip, at a site: the nodes of its part that the called pairs lead to. Output: MOWQACHI_REPLY_BYTES. */
+uint32_t mowqachi_second_reply(const uint8_t *part, size_t part_len, const uint8_t *path, size_t path_len,
+                               const uint8_t *calls, size_t calls_len,
+                               uint8_t *out, size_t out_len, uint8_t *work, size_t work_len);
+
+/* Second trip, at the hub: the final list of a bundle of second replies, one after another. Output: MOWQACHI_LIST_BYTES. */
+uint32_t mowqachi_join(const uint8_t *bundle, size_t bundle_len, uint8_t *out, size_t out_len, uint8_t *work, size_t work_len);
+
+#ifdef __cplusplus
+}
+#endif
+
+#endif

@@ -1,0 +1,101 @@
+//! Document 01 evaluated: every call as a function from bytes and buffer lengths to a refusal or the result's words. It is written from
+//! the document alone, for plainness and not for speed, and shares no method with the library where the document leaves a choice.
+
+pub mod hub;
+pub mod meaning;
+pub mod part;
+pub mod path;
+pub mod plant;
+pub mod relation;
+pub mod replies;
+pub mod states;
+pub mod words;
+
+use self::hub::*;
+use self::part::*;
+use self::path::read_path;
+use self::plant::Plant;
+use self::replies::*;
+use self::words::*;
+
+pub type Outcome = Result<Vec<u32>, Refusal>;
+
+/// The lengths of the lent buffers, in bytes.
+#[derive(Clone, Copy, PartialEq, Eq, Debug)]
+pub struct Room {
+    pub out: usize,
+    pub work: usize,
+}
+
+/// Number 1.
+fn check_room(room: Room, limit: usize) -> Result<(), Refusal> {
+    let short = |why| refuse::<()>(1, why).map_err(|refusal| refusal.of("buffers"));
+    if room.out < 4 * limit {
+        return short("output short");
+    }
+    if room.work < WORK_BYTES {
+        return short("working buffer short");
+    }
+    Ok(())
+}
+
+/// Number 15.
+fn check_result(words: Vec<u32>, limit: usize) -> Outcome {
+    if words.len() > limit {
+        return refuse(15, "over its limit").map_err(|refusal| refusal.of("result"));
+    }
+    Ok(words)
+}
+
+fn input<T>(name: &'static str, read: Result<T, Refusal>) -> Result<T, Refusal> {
+    read.map_err(|refusal| refusal.of(name))
+}
+
+pub fn old_search(whole: &[u8], path: &[u8], room: Room) -> Outcome {
+    check_room(room, BUNDLE_LIMIT)?;
+    let whole = input("whole", read_whole(whole))?;
+    let path = input("path", read_path(path))?;
+    check_result(Plant::of(&whole).search(&path), BUNDLE_LIMIT)
+}
+
+pub fn cut(whole: &[u8], cuts: &[u8], site: u32, room: Room) -> Outcome {
+    check_room(room, FILE_LIMIT)?;
+    let whole = input("whole", read_whole(whole))?;
+    input("cut list", check_cuts(&whole, cuts, site))?;
+    check_result(cut_part(&whole, cuts, site).words(), FILE_LIMIT)
+}
+
+pub fn first_reply(part: &[u8], path: &[u8], room: Room) -> Outcome {
+    check_room(room, FILE_LIMIT)?;
+    let part = input("part", read_part(part))?;
+    let path = input("path", read_path(path))?;
+    check_result(first_reply_words(&part, &path), FILE_LIMIT)
+}
+
+pub fn call_list(bundle: &[u8], room: Room) -> Outcome {
+    check_room(room, FILE_LIMIT)?;
+    let files = input("first bundle", read_first_bundle(bundle))?;
+    check_result(call_list_words(&files), FILE_LIMIT)
+}
+
+pub fn second_reply(part: &[u8], path: &[u8], calls: &[u8], room: Room) -> Outcome {
+    check_room(room, FILE_LIMIT)?;
+    let part = input("part", read_part(part))?;
+    let path = input("path", read_path(path))?;
+    let (n, calls) = input("call list", read_call_list(calls))?;
+    if n != path.n() {
+        return input("call list", refuse(12, "n not the path's"));
+    }
+    let no_door = |call: &Pair| part.node(call.0).is_some_and(|node| !node.door);
+    if calls.iter().any(no_door) {
+        return input("call list", refuse(14, "called node is no door"));
+    }
+    check_result(second_reply_words(&part, &path, &calls), FILE_LIMIT)
+}
+
+pub fn join(bundle: &[u8], room: Room) -> Outcome {
+    check_room(room, BUNDLE_LIMIT)?;
+    let files = input("second bundle", read_second_bundle(bundle))?;
+    let nodes = files.iter().flat_map(|file| file.nodes.iter().copied()).collect();
+    check_result(final_list(&nodes), BUNDLE_LIMIT)
+}

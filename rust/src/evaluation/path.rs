@@ -1,0 +1,114 @@
+//! Paths: label words, and the expression as a tree.
+
+use super::words::*;
+
+#[derive(Clone, Copy, PartialEq, Eq, Debug)]
+pub enum LabelWord {
+    Range { low: u32, high: u32 },
+    Group(u32),
+}
+
+const GROUPS: [(u32, u32); 8] =
+    [(0, 4095), (0, 1023), (0, 255), (1024, 1535), (1536, 1791), (1792, 2047), (2048, 3071), (4032, 4095)];
+
+impl LabelWord {
+    pub fn holds(&self, label: u32) -> bool {
+        let (low, high) = match *self {
+            LabelWord::Range { low, high } => (low, high),
+            LabelWord::Group(group) => GROUPS[group as usize],
+        };
+        low <= label && label <= high
+    }
+}
+
+/// A label stands in the tree as its position: the i-th label word of the file, from 1.
+#[derive(Clone, PartialEq, Eq, PartialOrd, Ord, Debug)]
+pub enum Expression {
+    Empty,
+    Label(usize),
+    Then(Box<Expression>, Box<Expression>),
+    Or(Box<Expression>, Box<Expression>),
+    Star(Box<Expression>),
+}
+
+#[derive(Clone, Debug)]
+pub struct Path {
+    pub labels: Vec<LabelWord>,
+    pub expression: Expression,
+}
+
+impl Path {
+    pub fn n(&self) -> usize {
+        self.labels.len()
+    }
+
+    /// Position 1 to n.
+    pub fn label(&self, position: usize) -> LabelWord {
+        self.labels[position - 1]
+    }
+}
+
+fn read_label(word: u32) -> Result<LabelWord, Refusal> {
+    match bits(word, 27, 24) {
+        0 => {
+            let (high, low) = (bits(word, 23, 12), bits(word, 11, 0));
+            if low > high {
+                return refuse(5, "low end above high");
+            }
+            Ok(LabelWord::Range { low, high })
+        }
+        1 if bits(word, 23, 3) != 0 => refuse(5, "group zero bit"),
+        1 => Ok(LabelWord::Group(bits(word, 2, 0))),
+        _ => refuse(5, "label sort"),
+    }
+}
+
+fn operator(word: u32, waiting: &mut Vec<Expression>) -> Result<(), Refusal> {
+    if bits(word, 27, 2) != 0 {
+        return refuse(5, "operator zero bit");
+    }
+    let mut operand = || match waiting.pop() {
+        Some(operand) => Ok(Box::new(operand)),
+        None => refuse(9, "operand missing"),
+    };
+    let made = match bits(word, 1, 0) {
+        0 => Expression::Empty,
+        3 => Expression::Star(operand()?),
+        sort => {
+            let second = operand()?;
+            let first = operand()?;
+            match sort {
+                1 => Expression::Then(first, second),
+                _ => Expression::Or(first, second),
+            }
+        }
+    };
+    waiting.push(made);
+    Ok(())
+}
+
+pub fn read_path(bytes: &[u8]) -> Result<Path, Refusal> {
+    let (header, words) = single_file(bytes, PATH_LIMIT, PATH)?;
+    let mut labels = vec![];
+    let mut waiting = vec![];
+    for word in words {
+        match kind(word) {
+            LABEL => {
+                labels.push(read_label(word)?);
+                waiting.push(Expression::Label(labels.len()));
+            }
+            OPERATOR => operator(word, &mut waiting)?,
+            _ => return refuse(5, "neither label nor operator"),
+        }
+        if waiting.len() > 16 {
+            return refuse(9, "17 waiting");
+        }
+    }
+    if waiting.len() != 1 {
+        return refuse(9, "not one left");
+    }
+    if labels.len() != header.n as usize {
+        return refuse(9, "label words not n");
+    }
+    Ok(Path { labels, expression: waiting.remove(0) })
+}

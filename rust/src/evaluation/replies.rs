@@ -1,0 +1,177 @@
+//! Walks inside a part; the words of first and second replies; reading them back from bundles.
+
+use super::part::Part;
+use super::path::Path;
+use super::states::States;
+use super::words::*;
+use std::collections::BTreeSet;
+
+pub type Pair = (u32, usize);
+
+/// All pairs that walks from the given pairs of the part end in. A node outside the part ends its walk.
+pub fn walks(part: &Part, path: &Path, states: &States, from: &[Pair]) -> BTreeSet<Pair> {
+    let mut reached: BTreeSet<Pair> = from.iter().copied().collect();
+    let mut waiting = from.to_vec();
+    while let Some((number, q)) = waiting.pop() {
+        let Some(node) = part.node(number) else { continue };
+        for (label, target) in &node.edges {
+            for p in states.after(path, q, *label) {
+                if reached.insert((*target, p)) {
+                    waiting.push((*target, p));
+                }
+            }
+        }
+    }
+    reached
+}
+
+fn pair_word(kind: u32, (node, state): Pair) -> u32 {
+    kind << 28 | node << 4 | state as u32
+}
+
+pub fn first_reply_words(part: &Part, path: &Path) -> Vec<u32> {
+    let states = States::of(path);
+    let mut words = vec![];
+    for door in part.doors() {
+        words.push(DOOR << 28 | u32::from(door.root) << 16 | door.number);
+        for q in 0..=path.n() {
+            let reached = walks(part, path, &states, &[(door.number, q)]);
+            let outside = reached.into_iter().filter(|pair| part.node(pair.0).is_none());
+            let row: Vec<u32> = outside.map(|pair| pair_word(REACH, pair)).collect();
+            if !row.is_empty() {
+                words.push(ROW << 28 | q as u32);
+                words.extend(row);
+            }
+        }
+    }
+    file(FIRST, part.site, path.n() as u32, &words)
+}
+
+pub fn second_reply_words(part: &Part, path: &Path, calls: &[Pair]) -> Vec<u32> {
+    let states = States::of(path);
+    let own = calls.iter().copied().filter(|call| part.node(call.0).is_some());
+    let reached = walks(part, path, &states, &own.collect::<Vec<_>>());
+    let accepted = reached.into_iter().filter(|pair| states.accepts[pair.1]);
+    let nodes: BTreeSet<u32> =
+        accepted.map(|pair| pair.0).filter(|node| part.node(*node).is_some()).collect();
+    let words: Vec<u32> = nodes.into_iter().map(|node| ANSWER << 28 | node).collect();
+    file(SECOND, part.site, path.n() as u32, &words)
+}
+
+pub struct Row {
+    pub state: usize,
+    pub reach: Vec<Pair>,
+}
+
+pub struct Door {
+    pub node: u32,
+    pub root: bool,
+    pub rows: Vec<Row>,
+}
+
+pub struct FirstReply {
+    pub header: Header,
+    pub doors: Vec<Door>,
+}
+
+pub struct SecondReply {
+    pub header: Header,
+    pub nodes: Vec<u32>,
+}
+
+fn read_door(word: u32, doors: &[Door]) -> Result<Door, Refusal> {
+    let (node, root) = (bits(word, 15, 0), bits(word, 16, 16) == 1);
+    if bits(word, 27, 17) != 0 {
+        return refuse(5, "door zero bit");
+    }
+    if doors.last().is_some_and(|last| last.node >= node) {
+        return refuse(6, "doors");
+    }
+    if root && doors.iter().any(|door| door.root) {
+        return refuse(7, "second root");
+    }
+    Ok(Door { node, root, rows: vec![] })
+}
+
+fn add_row(word: u32, n: u32, doors: &mut [Door]) -> Result<(), Refusal> {
+    let state = bits(word, 3, 0);
+    let Some(door) = doors.last_mut() else {
+        return refuse(5, "row before any door");
+    };
+    if bits(word, 27, 4) != 0 {
+        return refuse(5, "row zero bit");
+    }
+    if state > n {
+        return refuse(10, "row state");
+    }
+    let state = state as usize;
+    if door.rows.last().is_some_and(|last| last.state >= state) {
+        return refuse(6, "rows");
+    }
+    door.rows.push(Row { state, reach: vec![] });
+    Ok(())
+}
+
+fn add_reach(word: u32, n: u32, doors: &mut [Door]) -> Result<(), Refusal> {
+    let (node, state) = (bits(word, 19, 4), bits(word, 3, 0));
+    let Some(row) = doors.last_mut().and_then(|door| door.rows.last_mut()) else {
+        return refuse(5, "reach word before a row");
+    };
+    if bits(word, 27, 20) != 0 {
+        return refuse(5, "reach zero bit");
+    }
+    if state > n {
+        return refuse(10, "reach state");
+    }
+    let pair = (node, state as usize);
+    if row.reach.last().is_some_and(|last| *last >= pair) {
+        return refuse(6, "reach words");
+    }
+    row.reach.push(pair);
+    Ok(())
+}
+
+fn bare_row(doors: &[Door]) -> bool {
+    let last = doors.last().and_then(|door| door.rows.last());
+    last.is_some_and(|row| row.reach.is_empty())
+}
+
+pub fn read_first_reply(header: Header, words: &[u32]) -> Result<FirstReply, Refusal> {
+    let mut doors = vec![];
+    for word in words {
+        if bare_row(&doors) && kind(*word) != REACH {
+            return refuse(5, "row without reach words");
+        }
+        match kind(*word) {
+            DOOR => {
+                let door = read_door(*word, &doors)?;
+                doors.push(door);
+            }
+            ROW => add_row(*word, header.n, &mut doors)?,
+            REACH => add_reach(*word, header.n, &mut doors)?,
+            _ => return refuse(5, "neither door, row nor reach word"),
+        }
+    }
+    if bare_row(&doors) {
+        return refuse(5, "row without reach words at the end");
+    }
+    Ok(FirstReply { header, doors })
+}
+
+pub fn read_second_reply(header: Header, words: &[u32]) -> Result<SecondReply, Refusal> {
+    let mut nodes: Vec<u32> = vec![];
+    for word in words {
+        if kind(*word) != ANSWER {
+            return refuse(5, "no answer word");
+        }
+        if bits(*word, 27, 16) != 0 {
+            return refuse(5, "answer zero bit");
+        }
+        let node = bits(*word, 15, 0);
+        if nodes.last().is_some_and(|last| *last >= node) {
+            return refuse(6, "answers");
+        }
+        nodes.push(node);
+    }
+    Ok(SecondReply { header, nodes })
+}

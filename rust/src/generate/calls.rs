@@ -1,0 +1,176 @@
+//! Random calls: inputs that are accepted, and damaged ones.
+
+use super::{bundle, damage, path, plant};
+use crate::beside::Call;
+use crate::evaluation::part::{Node, Part};
+use crate::evaluation::plant::Plant;
+use crate::evaluation::replies::first_reply_words;
+use crate::evaluation::words::*;
+use crate::evaluation::{path::read_path, Room};
+use crate::random::Random;
+
+/// Which inputs of a call are damaged, lowest bit first: none, mostly one, or any.
+fn damages(random: &mut Random, inputs: usize) -> u32 {
+    match random.below(10) {
+        0..=2 => 0,
+        3..=7 => 1 << random.below(inputs),
+        _ => random.below(1 << inputs) as u32,
+    }
+}
+
+fn single(random: &mut Random, words: &[u32], limit: usize, damage: bool) -> Vec<u8> {
+    match damage {
+        true => damage::damaged(random, words, limit),
+        false => bytes_of(words),
+    }
+}
+
+fn old_search(random: &mut Random) -> Call {
+    let alphabet = path::alphabet(random);
+    let plant = plant::any_plant(random, &alphabet);
+    let whole = plant::whole(random, &plant).words();
+    let path = path::some_path(random, &alphabet);
+    let damages = damages(random, 2);
+    let whole = single(random, &whole, FILE_LIMIT, damages & 1 != 0);
+    Call::OldSearch { whole, path: single(random, &path, PATH_LIMIT, damages & 2 != 0) }
+}
+
+fn damage_cuts(random: &mut Random, cuts: &mut Vec<u8>, site: &mut u32) {
+    let at = random.below(cuts.len());
+    match random.below(5) {
+        0 => drop(cuts.remove(at)),
+        1 => cuts.push(0),
+        2 => cuts[at] = random.pick(&[16, 17, 255]),
+        3 => *site = random.pick(&[16, 17, 0x0100_0000, u32::MAX]),
+        _ => cuts.clear(),
+    }
+}
+
+fn cut(random: &mut Random) -> Call {
+    let alphabet = path::alphabet(random);
+    let plant = plant::any_plant(random, &alphabet);
+    let whole = plant::whole(random, &plant).words();
+    let sites = random.between(1, 16);
+    let mut cuts: Vec<u8> = plant.nodes.keys().map(|_| random.below(sites) as u8).collect();
+    let mut site = random.below(sites) as u32;
+    let damages = damages(random, 2);
+    if damages & 2 != 0 {
+        damage_cuts(random, &mut cuts, &mut site);
+    }
+    Call::Cut { whole: single(random, &whole, FILE_LIMIT, damages & 1 != 0), cuts, site }
+}
+
+/// A part of a random true cut of a plant, and a path over the same labels.
+fn part_and_path(random: &mut Random, plant: fn(&mut Random, &[u32]) -> Plant) -> (Part, Vec<u32>) {
+    let alphabet = path::alphabet(random);
+    let plant = plant(random, &alphabet);
+    let (sites, further) = (random.between(1, 4), random.pick(&[0, 10, 100]));
+    let parts = plant::true_cut(random, &plant, sites, further);
+    let most = parts.iter().max_by_key(|part| part.nodes.len()).expect("a cut has parts");
+    let part = if random.chance(70) { most.clone() } else { random.pick(&parts) };
+    (part, path::some_path(random, &alphabet))
+}
+
+/// Doors with links of label 0 to the same targets, and a star of an or of full ranges: a reply near its limit.
+fn dear_part_and_path(random: &mut Random) -> (Part, Vec<u32>) {
+    let (doors, n) = (random.between(1, 3), random.between(1, 15));
+    let fits = (4095 / doors - 1) / (n + 1) - 1;
+    let targets = (fits / n + random.below(2)).clamp(1, 4000 / doors) as u32;
+    let node = |door: usize| Node {
+        number: 8 * door as u32,
+        door: true,
+        root: door == 1,
+        edges: (0..targets).map(|target| (0, 30 + target)).collect(),
+    };
+    let full = LABEL << 28 | 4095 << 12;
+    let mut words = vec![full];
+    (1..n).for_each(|_| words.extend([full, path::OR]));
+    words.push(path::STAR);
+    (Part { site: 9, nodes: (0..doors).map(node).collect() }, file(PATH, 0, n as u32, &words))
+}
+
+fn first_reply(random: &mut Random) -> Call {
+    let dear = random.chance(2);
+    let (part, path) =
+        if dear { dear_part_and_path(random) } else { part_and_path(random, plant::some_plant) };
+    let damages = if dear { 0 } else { damages(random, 2) };
+    let part = single(random, &part.words(), FILE_LIMIT, damages & 1 != 0);
+    Call::FirstReply { part, path: single(random, &path, PATH_LIMIT, damages & 2 != 0) }
+}
+
+fn second_reply(random: &mut Random) -> Call {
+    let (part, path) = part_and_path(random, plant::any_plant);
+    let n = bits(path[0], 23, 20) as usize;
+    let calls = bundle::call_list(random, &part, n);
+    let mut damages = damages(random, 3);
+    if random.chance(30) {
+        damages |= 4;
+    }
+    let part = single(random, &part.words(), FILE_LIMIT, damages & 1 != 0);
+    let path = single(random, &path, PATH_LIMIT, damages & 2 != 0);
+    Call::SecondReply { part, path, calls: single(random, &calls, FILE_LIMIT, damages & 4 != 0) }
+}
+
+/// The first replies that the sites of a random cut owe.
+fn honest_replies(random: &mut Random) -> Vec<Vec<u32>> {
+    let alphabet = path::alphabet(random);
+    let plant = plant::some_plant(random, &alphabet);
+    let sites = random.between(1, 5);
+    let parts = plant::true_cut(random, &plant, sites, 0);
+    let path = read_path(&bytes_of(&path::some_path(random, &alphabet))).expect("paths are made right");
+    parts.iter().map(|part| first_reply_words(part, &path)).collect()
+}
+
+fn call_list(random: &mut Random) -> Call {
+    let files = match random.below(50) {
+        0 => bundle::dear_replies(random),
+        1..=15 => honest_replies(random),
+        _ => bundle::first_replies(random),
+    };
+    let bundle = match random.chance(25) || files.concat().len() > 4000 {
+        true => bytes_of(&files.concat()),
+        false => damage::damaged_bundle(random, &files),
+    };
+    Call::CallList { bundle }
+}
+
+fn join(random: &mut Random) -> Call {
+    let files = bundle::second_replies(random);
+    let bundle = match random.chance(25) {
+        true => bytes_of(&files.concat()),
+        false => damage::damaged_bundle(random, &files),
+    };
+    Call::Join { bundle }
+}
+
+pub const NAMES: [&str; 6] = ["old search", "cut", "first reply", "call list", "second reply", "join"];
+
+/// A random call of this name.
+pub fn call(random: &mut Random, name: &str) -> Call {
+    match name {
+        "old search" => old_search(random),
+        "cut" => cut(random),
+        "first reply" => first_reply(random),
+        "call list" => call_list(random),
+        "second reply" => second_reply(random),
+        "join" => join(random),
+        _ => panic!("no call {name}"),
+    }
+}
+
+/// Buffers for a call: mostly the least ones, else some around every bound.
+pub fn room(random: &mut Random, call: &Call) -> Room {
+    let least = call.least_room();
+    let around = |random: &mut Random, bound: usize| match random.below(8) {
+        0 => 0,
+        1 => bound - 1,
+        2 => random.below(bound),
+        3 => bound + random.between(1, 3),
+        4 => bound + random.below(5000),
+        _ => bound,
+    };
+    match random.chance(80) {
+        true => least,
+        false => Room { out: around(random, least.out), work: around(random, least.work) },
+    }
+}

@@ -1,0 +1,8 @@
+//! Random files, whole questions and damage.
+
+pub mod bundle;
+pub mod calls;
+pub mod damage;
+pub mod path;
+pub mod plant;
+pub mod question;

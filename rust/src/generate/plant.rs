@@ -1,0 +1,102 @@
+//! Random plants and true cuts of them.
+
+use crate::evaluation::part::{Node, Part};
+use crate::evaluation::plant::Plant;
+use crate::random::Random;
+use std::collections::{BTreeMap, BTreeSet};
+
+/// Node numbers: close together, or anywhere with the ends among them.
+fn numbers(random: &mut Random, count: usize) -> Vec<u32> {
+    let mut numbers = BTreeSet::new();
+    if random.chance(50) {
+        let any = random.below(65_536 - count);
+        let first = random.pick(&[0, 1, 65_536 - count, any]);
+        numbers.extend((first..first + count).map(|number| number as u32));
+    } else {
+        numbers.extend(random.chance(50).then_some(0));
+        while numbers.len() < count {
+            let last = random.chance(5);
+            numbers.insert(if last { 65_535 } else { random.below(65_536) as u32 });
+        }
+    }
+    numbers.into_iter().collect()
+}
+
+/// A plant of `count` nodes with up to `degree` links each; `near` of a hundred targets lie near their source, the others anywhere.
+pub fn plant(random: &mut Random, count: usize, degree: usize, near: usize, alphabet: &[u32]) -> Plant {
+    let numbers = numbers(random, count);
+    let count = numbers.len();
+    let mut nodes = BTreeMap::new();
+    for at in 0..count {
+        let links = (0..random.between(0, degree)).map(|_| {
+            let target = match random.chance(near) {
+                true => (at + random.below(4)) % count,
+                false => random.below(count),
+            };
+            (random.pick(alphabet), numbers[target])
+        });
+        nodes.insert(numbers[at], links.collect());
+    }
+    Plant { root: random.pick(&numbers), nodes }
+}
+
+pub fn some_plant(random: &mut Random, alphabet: &[u32]) -> Plant {
+    let most = random.pick(&[1, 4, 8, 8, 16, 16, 40, 100]);
+    let (count, degree) = (random.between(1, most), random.between(1, 4));
+    let near = random.pick(&[0, 50, 95]);
+    plant(random, count, degree, near, alphabet)
+}
+
+/// Now and then a plant that fills a file, or just does not fit.
+pub fn any_plant(random: &mut Random, alphabet: &[u32]) -> Plant {
+    if random.chance(99) {
+        return some_plant(random, alphabet);
+    }
+    let (count, near) = (random.between(1200, 1400), random.pick(&[0, 50, 95]));
+    plant(random, count, 4, near, alphabet)
+}
+
+fn node(plant: &Plant, number: u32, door: bool) -> Node {
+    let edges = plant.nodes[&number].iter().copied().collect();
+    Node { number, door: door || number == plant.root, root: number == plant.root, edges }
+}
+
+/// The plant as one file, with some nodes marked as doors.
+pub fn whole(random: &mut Random, plant: &Plant) -> Part {
+    let site = if random.chance(70) { 0 } else { random.below(16) as u32 };
+    let doors = random.pick(&[0, 50]);
+    let nodes = plant.nodes.keys().map(|number| node(plant, *number, random.chance(doors)));
+    Part { site, nodes: nodes.collect() }
+}
+
+/// A site for every node: nodes near each other mostly have the same one, or any node has any.
+fn assign(random: &mut Random, plant: &Plant, sites: &[u32]) -> BTreeMap<u32, u32> {
+    let count = plant.nodes.len();
+    let together = if count > 300 { 100 } else { random.pick(&[0, 95]) };
+    let site = |(at, number): (usize, &u32)| {
+        let site = match random.chance(together) {
+            true => sites[at * sites.len() / count],
+            false => random.pick(sites),
+        };
+        (*number, site)
+    };
+    plant.nodes.keys().enumerate().map(site).collect()
+}
+
+/// A true cut into this many parts, in any order, with `further` of a hundred other nodes marked as doors.
+pub fn true_cut(random: &mut Random, plant: &Plant, parts: usize, further: usize) -> Vec<Part> {
+    let mut sites: Vec<u32> = (0..16).collect();
+    random.shuffle(&mut sites);
+    sites.truncate(parts);
+    let site_of = assign(random, plant, &sites);
+    let links = plant.nodes.iter().flat_map(|(source, out)| out.iter().map(move |link| (source, link.1)));
+    let crossed: BTreeSet<u32> =
+        links.filter(|(source, target)| site_of[source] != site_of[target]).map(|link| link.1).collect();
+    let part = |site: &u32| {
+        let inside = plant.nodes.keys().filter(|number| site_of[number] == *site);
+        let nodes =
+            inside.map(|number| node(plant, *number, crossed.contains(number) || random.chance(further)));
+        Part { site: *site, nodes: nodes.collect() }
+    };
+    sites.iter().map(part).collect()
+}

@@ -1,0 +1,113 @@
+//! Random whole questions: a plant, a true cut of it, a path.
+
+use super::path::{self, OR, STAR, THEN};
+use super::plant;
+use crate::evaluation::part::{Node, Part};
+use crate::evaluation::plant::Plant;
+use crate::evaluation::words::{file, LABEL, PATH};
+use crate::random::Random;
+use std::collections::{BTreeMap, BTreeSet};
+
+#[derive(Clone, Debug)]
+pub struct Question {
+    pub plant: Plant,
+    pub parts: Vec<Part>,
+    pub path: Vec<u32>,
+}
+
+fn cut(random: &mut Random, plant: Plant, path: Vec<u32>) -> Question {
+    let most = random.pick(&[1, 2, 3, 5, 16]);
+    let sites = random.between(1, most);
+    let further = random.pick(&[0, 0, 10, 50, 100]);
+    let parts = plant::true_cut(random, &plant, sites, further);
+    Question { plant, parts, path }
+}
+
+fn small(random: &mut Random) -> Question {
+    let alphabet = path::alphabet(random);
+    let plant = plant::some_plant(random, &alphabet);
+    let path = path::some_path(random, &alphabet);
+    cut(random, plant, path)
+}
+
+const FULL: u32 = LABEL << 28 | 4095 << 12;
+
+/// An or of full ranges, starred or not.
+fn or_of_ranges(n: usize, star: bool) -> Vec<u32> {
+    let mut words = vec![FULL];
+    (1..n).for_each(|_| words.extend([FULL, OR]));
+    words.extend(star.then_some(STAR));
+    file(PATH, 0, n as u32, &words)
+}
+
+/// First replies that are long, many beyond their limit or beyond a bundle's.
+fn dear(random: &mut Random) -> Question {
+    let alphabet = path::alphabet(random);
+    let (sites, each) = (random.between(2, 10), random.between(2, 8));
+    let plant = plant::plant(random, sites * each, 4, 0, &alphabet);
+    let (n, star) = (random.between(8, 15), random.chance(80));
+    let parts = plant::true_cut(random, &plant, sites, 0);
+    Question { plant, parts, path: or_of_ranges(n, star) }
+}
+
+/// A plant too large for one file, cut where few links cross; some list more nodes than a bundle holds.
+fn large(random: &mut Random) -> Question {
+    let alphabet = path::alphabet(random);
+    let count = random.pick(&[2000, 3000, 4000, 9000, 9000]);
+    let degree = if count == 9000 { 1 } else { 3 };
+    let mut plant = plant::plant(random, count, degree, 100, &alphabet);
+    let numbers: Vec<u32> = plant.nodes.keys().copied().collect();
+    for (at, links) in plant.nodes.values_mut().enumerate() {
+        links.insert((random.pick(&alphabet), numbers[(at + 1) % count]));
+        if random.below(count) < 12 {
+            links.insert((random.pick(&alphabet), random.pick(&numbers)));
+        }
+    }
+    let path = match random.chance(60) {
+        true => or_of_ranges(1, true),
+        false => path::path(random, &alphabet, 4),
+    };
+    let sites = random.between(6, 16);
+    let parts = plant::true_cut(random, &plant, sites, 0);
+    Question { plant, parts, path }
+}
+
+/// A call list with a length near its limit: the root links to `wide` nodes of a second site, in thirteen states each, and one of these to
+/// `more` nodes of a third in one state.
+fn many_calls(random: &mut Random) -> Question {
+    let wide = random.between(250, 280);
+    let more = (4095 - 13 * wide) + random.below(3) - 2;
+    let mut nodes: BTreeMap<u32, BTreeSet<(u32, u32)>> = BTreeMap::new();
+    let (second, third) = (1000, 2000);
+    nodes.insert(5, (0..wide as u32).map(|at| (7, second + at)).collect());
+    nodes.extend((0..wide as u32).map(|at| (second + at, BTreeSet::new())));
+    nodes.extend((0..more as u32).map(|at| (third + at, BTreeSet::new())));
+    nodes.insert(second + 3, (0..more as u32).map(|at| (8, third + at)).collect());
+    let part = |site: u32, from: u32, to: u32| {
+        let node = |(number, links): (&u32, &BTreeSet<(u32, u32)>)| {
+            let edges = links.iter().copied().collect();
+            Node { number: *number, door: true, root: *number == 5, edges }
+        };
+        Part { site, nodes: nodes.range(from..to).map(node).collect() }
+    };
+    let parts = vec![part(4, 0, second), part(0, second, third), part(11, third, 65_536)];
+    let sevens = LABEL << 28 | 7 << 12 | 7;
+    let mut words = vec![sevens];
+    (1..12).for_each(|_| words.extend([sevens, OR]));
+    words.extend([sevens, LABEL << 28 | 8 << 12 | 8, THEN, OR]);
+    Question { plant: Plant { root: 5, nodes }, parts, path: file(PATH, 0, 14, &words) }
+}
+
+/// Any question whose parts are parts: each within its limit.
+pub fn question(random: &mut Random) -> Question {
+    let question = match random.below(200) {
+        0 | 1 => large(random),
+        2 | 3 => many_calls(random),
+        4..=10 => dear(random),
+        _ => small(random),
+    };
+    match question.parts.iter().all(|part| part.words().len() <= 4096) {
+        true => question,
+        false => small(random),
+    }
+}

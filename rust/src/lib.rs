@@ -1,0 +1,6 @@
+//! The proved library beside an evaluation of document 01 that shares nothing with it.
+pub mod beside;
+pub mod calls;
+pub mod evaluation;
+pub mod generate;
+pub mod random;

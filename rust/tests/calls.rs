@@ -1,0 +1,144 @@
+//! Random and damaged inputs for every call, by the library and by the evaluation; every check of document 01 must have refused some.
+
+use mowqachi_tests::evaluation::words::Refusal;
+use mowqachi_tests::generate::calls::{call, room};
+use mowqachi_tests::random::{cases, seed, Naming, Random};
+use std::collections::BTreeMap;
+
+type Checks = &'static [(u32, &'static str)];
+
+const SIZE: Checks = &[(2, "no words"), (2, "not in fours"), (2, "over the limit")];
+const HEADER: Checks = &[(3, "header kind"), (3, "header zero bit")];
+const NO_SITE: Checks = &[(3, "header site unused"), (4, "length wrong")];
+const NO_N: Checks = &[(3, "header n unused"), (4, "length wrong")];
+const PART: Checks = &[
+    (5, "neither node nor edge"),
+    (5, "node zero bit"),
+    (5, "edge before any node"),
+    (6, "nodes"),
+    (6, "edges"),
+    (7, "root without door"),
+    (7, "second root"),
+];
+const WHOLE: Checks = &[(7, "whole without root"), (8, "target not a node")];
+const CUTS: Checks = &[(11, "cut list length"), (11, "cut list byte"), (11, "asked site")];
+const PATH: Checks = &[
+    (5, "neither label nor operator"),
+    (5, "low end above high"),
+    (5, "group zero bit"),
+    (5, "label sort"),
+    (5, "operator zero bit"),
+    (9, "operand missing"),
+    (9, "17 waiting"),
+    (9, "not one left"),
+    (9, "label words not n"),
+];
+const CALLS: Checks = &[
+    (5, "no call word"),
+    (5, "call zero bit"),
+    (10, "call state"),
+    (6, "calls"),
+    (12, "n not the path's"),
+    (14, "called node is no door"),
+];
+const BUNDLE: Checks = &[
+    (4, "length 0"),
+    (4, "length over 4,096"),
+    (4, "length past the end"),
+    (12, "site twice"),
+    (12, "different n"),
+    (13, "node in two files"),
+];
+const FIRST: Checks = &[
+    (5, "neither door, row nor reach word"),
+    (5, "door zero bit"),
+    (5, "row before any door"),
+    (5, "row zero bit"),
+    (5, "reach word before a row"),
+    (5, "reach zero bit"),
+    (5, "row without reach words"),
+    (5, "row without reach words at the end"),
+    (10, "row state"),
+    (10, "reach state"),
+    (6, "doors"),
+    (6, "rows"),
+    (6, "reach words"),
+    (7, "second root"),
+    (7, "first bundle without root"),
+    (7, "roots in two files"),
+    (14, "reach word's node is no door"),
+];
+const SECOND: Checks = &[(5, "no answer word"), (5, "answer zero bit"), (6, "answers")];
+const ROOM: Checks = &[(1, "output short"), (1, "working buffer short")];
+const RESULT: Checks = &[(15, "over its limit")];
+
+/// What must be refused at least once, by input. `None` is acceptance.
+fn owed(inputs: &[(&'static str, &[Checks])]) -> BTreeMap<Option<Refusal>, u64> {
+    let checks = inputs.iter().flat_map(|(input, lists)| {
+        lists
+            .iter()
+            .flat_map(|list| list.iter())
+            .map(|(number, why)| Some(Refusal { number: *number, input, why }))
+    });
+    checks.chain([None]).map(|check| (check, 0)).collect()
+}
+
+/// Makes this share of the cases, and goes on for a while if some check has not been met.
+fn run(name: &'static str, inputs: &[(&'static str, &[Checks])]) {
+    let mut seen = owed(&[&[("buffers", &[ROOM][..])], inputs].concat());
+    let wanted = cases() * 12 / 100;
+    let most = wanted + 50_000;
+    let mut made = 0;
+    while made < wanted || made < most && seen.values().any(|count| *count == 0) {
+        let _naming = Naming(name, made);
+        let mut random = Random::new(seed(), name, made);
+        let call = call(&mut random, name);
+        let room = room(&mut random, &call);
+        let outcome = call.check(&mut random, room);
+        let count = seen.get_mut(&outcome.as_ref().err().copied());
+        *count.unwrap_or_else(|| panic!("{name} refused by a check it has not: {outcome:?}")) += 1;
+        made += 1;
+    }
+    for (check, count) in &seen {
+        let text = check.map_or("accepted".to_string(), |r| format!("{} {}: {}", r.number, r.input, r.why));
+        println!("{name:12} {count:7} {text}");
+    }
+    println!("{name:12} {made:7} cases");
+    assert!(seen.values().all(|count| *count > 0), "{name}: some check never refused");
+}
+
+#[test]
+fn old_search() {
+    run(
+        "old search",
+        &[("whole", &[SIZE, HEADER, NO_N, PART, WHOLE]), ("path", &[SIZE, HEADER, NO_SITE, PATH])],
+    );
+}
+
+#[test]
+fn cut() {
+    run("cut", &[("whole", &[SIZE, HEADER, NO_N, PART, WHOLE]), ("cut list", &[CUTS])]);
+}
+
+#[test]
+fn first_reply() {
+    let path: (_, &[Checks]) = ("path", &[SIZE, HEADER, NO_SITE, PATH]);
+    run("first reply", &[("part", &[SIZE, HEADER, NO_N, PART]), path, ("result", &[RESULT])]);
+}
+
+#[test]
+fn call_list() {
+    run("call list", &[("first bundle", &[SIZE, HEADER, BUNDLE, FIRST]), ("result", &[RESULT])]);
+}
+
+#[test]
+fn second_reply() {
+    let path: (_, &[Checks]) = ("path", &[SIZE, HEADER, NO_SITE, PATH]);
+    let calls: (_, &[Checks]) = ("call list", &[SIZE, HEADER, NO_SITE, CALLS]);
+    run("second reply", &[("part", &[SIZE, HEADER, NO_N, PART]), path, calls]);
+}
+
+#[test]
+fn join() {
+    run("join", &[("second bundle", &[SIZE, HEADER, BUNDLE, SECOND])]);
+}

@@ -1,0 +1,343 @@
+//! Every example of document 01, by the library and by the evaluation.
+
+use mowqachi_tests::beside::{answer, Call};
+use mowqachi_tests::evaluation::words::bytes_of;
+use mowqachi_tests::evaluation::Room;
+use mowqachi_tests::random::Random;
+
+const W: &str = "10000007 20030001 30050002 20000002 30060003 20000003 30050002";
+const P: &str = "40300007 50005005 50006006 50005005 60000001 60000003 60000001";
+/// 5 then 6 then 5.
+const Q: &str = "40300006 50005005 50006006 60000001 50005005 60000001";
+const ONE_LABEL: &str = "40100002 50005005";
+
+fn words(text: &str) -> Vec<u32> {
+    text.split_whitespace().map(|word| u32::from_str_radix(word, 16).expect(word)).collect()
+}
+
+fn bytes(text: &str) -> Vec<u8> {
+    bytes_of(&words(text))
+}
+
+/// The library's answer, held to the evaluation's.
+fn made(call: &Call) -> (u32, Vec<u32>) {
+    made_in(call, call.least_room())
+}
+
+fn made_in(call: &Call, room: Room) -> (u32, Vec<u32>) {
+    answer(&call.check(&mut Random::new(1, "document", 0), room))
+}
+
+fn gives(call: Call, text: &str) {
+    assert_eq!(made(&call), (0, words(text)), "{call:x?}");
+}
+
+fn refuses(call: Call, number: u32) {
+    assert_eq!(made(&call).0, number, "{call:x?}");
+}
+
+fn old_search(whole: &str, path: &str) -> Call {
+    Call::OldSearch { whole: bytes(whole), path: bytes(path) }
+}
+
+fn cut(whole: &str, cuts: &[u8], site: u32) -> Call {
+    Call::Cut { whole: bytes(whole), cuts: cuts.to_vec(), site }
+}
+
+fn first_reply(part: &str, path: &str) -> Call {
+    Call::FirstReply { part: bytes(part), path: bytes(path) }
+}
+
+fn call_list(bundle: &str) -> Call {
+    Call::CallList { bundle: bytes(bundle) }
+}
+
+fn second_reply(part: &str, path: &str, calls: &str) -> Call {
+    Call::SecondReply { part: bytes(part), path: bytes(path), calls: bytes(calls) }
+}
+
+fn join(bundle: &str) -> Call {
+    Call::Join { bundle: bytes(bundle) }
+}
+
+/// Every call with its own inputs in order; `part` stands for the whole too.
+fn over_a_part(part: &str) -> Vec<Call> {
+    vec![
+        old_search(part, ONE_LABEL),
+        cut(part, &[0], 0),
+        first_reply(part, ONE_LABEL),
+        second_reply(part, ONE_LABEL, "b0100001"),
+    ]
+}
+
+fn all_calls() -> Vec<Call> {
+    let mut calls = over_a_part("10000002 20030001");
+    calls.extend([call_list("70000002 80010001"), join("d0000001")]);
+    calls
+}
+
+#[test]
+fn end_to_end() {
+    let parts = ["10000005 20030001 30050002 20010003 30050002", "11000003 20010002 30060003"];
+    let firsts = [
+        "7030000b 80010001 90000000 a0000021 90000002 a0000023 80000003 90000000 a0000021 90000002 a0000023",
+        "71300006 80000002 90000001 a0000032 90000003 a0000032",
+    ];
+    let calls = "b0300005 c0000010 c0000021 c0000023 c0000032";
+    let seconds = ["d0300001", "d1300002 e0000002"];
+    let list = "f0000002 e0000002";
+    for site in 0..2 {
+        gives(cut(W, &[0, 1, 0], site as u32), parts[site]);
+        gives(first_reply(parts[site], P), firsts[site]);
+        gives(second_reply(parts[site], P, calls), seconds[site]);
+    }
+    for (first, second) in [(0, 1), (1, 0)] {
+        gives(call_list(&format!("{} {}", firsts[first], firsts[second])), calls);
+        gives(join(&format!("{} {}", seconds[first], seconds[second])), list);
+    }
+    gives(old_search(W, P), list);
+}
+
+#[test]
+fn row_1_short_buffers() {
+    for call in all_calls() {
+        let least = call.least_room();
+        assert_eq!(made(&call).0, 0);
+        for (out, work) in [(1, 0), (0, 1), (1, 1), (least.out, 0), (0, least.work)] {
+            let room = Room { out: least.out - out, work: least.work - work };
+            assert_eq!(made_in(&call, room).0, 1, "{call:x?} {room:?}");
+        }
+    }
+    let reply = first_reply("10000001", ONE_LABEL);
+    assert_eq!(made_in(&reply, Room { out: 16_383, work: 32_768 }).0, 1);
+    assert_eq!(made_in(&reply, Room { out: 16_384, work: 32_768 }).0, 0);
+}
+
+#[test]
+fn row_2_sizes() {
+    for length in [0, 1, 3, 5] {
+        let short = vec![0u8; length];
+        let whole = bytes("10000002 20030001");
+        let path = bytes(ONE_LABEL);
+        let calls = [
+            Call::OldSearch { whole: short.clone(), path: path.clone() },
+            Call::OldSearch { whole: whole.clone(), path: short.clone() },
+            Call::Cut { whole: short.clone(), cuts: vec![0], site: 0 },
+            Call::FirstReply { part: short.clone(), path: path.clone() },
+            Call::FirstReply { part: whole.clone(), path: short.clone() },
+            Call::CallList { bundle: short.clone() },
+            Call::SecondReply { part: short.clone(), path: path.clone(), calls: short.clone() },
+            Call::SecondReply { part: whole.clone(), path: short.clone(), calls: short.clone() },
+            Call::SecondReply { part: whole, path, calls: short.clone() },
+            Call::Join { bundle: short },
+        ];
+        calls.into_iter().for_each(|call| refuses(call, 2));
+    }
+}
+
+#[test]
+fn rows_3_to_8() {
+    let rows = [
+        (3, "10100001"),
+        (4, "10000002"),
+        (5, "10000002 30050002"),
+        (6, "10000003 20000002 20000002"),
+        (7, "10000002 20020001"),
+    ];
+    for (number, part) in rows {
+        over_a_part(part).into_iter().for_each(|call| refuses(call, number));
+    }
+    let open = "10000003 20030001 30050002";
+    refuses(old_search(open, P), 8);
+    refuses(cut(open, &[0], 0), 8);
+    gives(first_reply(open, ONE_LABEL), "70100004 80010001 90000000 a0000021");
+}
+
+#[test]
+fn row_9_paths() {
+    for path in ["40000002 60000003", "40000001", "40000003 60000000 60000000"] {
+        refuses(old_search(W, path), 9);
+        refuses(first_reply("10000001", path), 9);
+        refuses(second_reply("10000001", path, "b0000001"), 9);
+    }
+}
+
+#[test]
+fn rows_10_to_14() {
+    refuses(second_reply("10000001", "40000002 60000000", "b0000002 c0000011"), 10);
+    refuses(call_list("70000003 80010001 90000001"), 10);
+    refuses(cut(W, &[0, 16, 0], 0), 11);
+    refuses(cut(W, &[0, 1], 0), 11);
+    refuses(cut(W, &[0, 1, 0], 16), 11);
+    refuses(call_list("70000001 70000001"), 12);
+    refuses(join("d0000001 d0000001"), 12);
+    refuses(join("d0000001 d1100001"), 12);
+    refuses(second_reply("10000001", P, "b0100001"), 12);
+    refuses(call_list("70000002 80010001 71000002 80000001"), 13);
+    refuses(join("d0000002 e0000001 d1000002 e0000001"), 13);
+    refuses(call_list("70000004 80010001 90000000 a0000020"), 14);
+    refuses(second_reply("10000002 20000001", "40000002 60000000", "b0000002 c0000010"), 14);
+}
+
+/// Two doors without links between them, each with label 0 to `targets` nodes outside.
+fn dear_part(targets: u32) -> Vec<u8> {
+    let mut part = vec![0x1000_0000 | (3 + 2 * targets)];
+    for door in 0..2 {
+        part.push(0x2001_0000 | door);
+        part.extend((0..targets).map(|target| 0x3000_0000 | (2 + target)));
+    }
+    bytes_of(&part)
+}
+
+/// A path of these words behind a header.
+fn path(n: u32, words: &[u32]) -> Vec<u8> {
+    let header = 0x4000_0000 | n << 20 | (words.len() as u32 + 1);
+    bytes_of(&[&[header], words].concat())
+}
+
+const FULL: u32 = 0x50ff_f000;
+const EMPTY: u32 = 0x6000_0000;
+const THEN: u32 = 0x6000_0001;
+const OR: u32 = 0x6000_0002;
+const STAR: u32 = 0x6000_0003;
+
+/// An or of `count` words.
+fn or_of(label: u32, count: usize) -> Vec<u32> {
+    let mut words = vec![label];
+    (1..count).for_each(|_| words.extend([label, OR]));
+    words
+}
+
+#[test]
+fn row_15_sizes() {
+    let star = [or_of(FULL, 15), vec![STAR]].concat();
+    let reply = |targets| Call::FirstReply { part: dear_part(targets), path: path(15, &star) };
+    refuses(reply(9), 15);
+    let (number, words) = made(&reply(8));
+    assert_eq!((number, words.len(), words[0]), (0, 3875, 0x70f0_0000 | 3875));
+}
+
+/// One door, one label and `targets` targets: 3 + targets words.
+fn wide_part(targets: u32) -> Vec<u8> {
+    let mut part = vec![0x1000_0000 | (2 + targets), 0x2001_0000];
+    part.extend((1..=targets).map(|target| 0x3000_0000 | target));
+    bytes_of(&part)
+}
+
+#[test]
+fn first_reply_at_its_limit() {
+    let reply = |targets| Call::FirstReply { part: wide_part(targets), path: path(1, &[FULL]) };
+    let (number, words) = made(&reply(4093));
+    assert_eq!((number, words.len()), (0, 4096));
+    refuses(reply(4094), 15);
+    refuses(reply(4095), 2);
+}
+
+/// The root calls `first` pairs of the doors behind it, and door 1 calls `more` states of the last door.
+fn wide_bundle(first: u32, more: u32) -> Vec<u8> {
+    let last = 2 + first / 16;
+    let mut root = vec![0x70f0_0000 | (3 + first), 0x8001_0000, 0x9000_0000];
+    root.extend((0..first).map(|pair| 0xa000_0010 + pair));
+    let mut rest = vec![0x71f0_0000 | (2 + more + last), 0x8000_0001, 0x9000_0000];
+    rest.extend((0..more).map(|state| 0xa000_0000 | last << 4 | state));
+    rest.extend((2..=last).map(|door| 0x8000_0000 | door));
+    bytes_of(&[root, rest].concat())
+}
+
+#[test]
+fn call_list_at_its_limit() {
+    let list = |more| Call::CallList { bundle: wide_bundle(4093, more) };
+    let (number, words) = made(&list(1));
+    assert_eq!((number, words.len(), words[0]), (0, 4096, 0xb0f0_1000));
+    refuses(list(2), 15);
+    refuses(list(16), 15);
+}
+
+#[test]
+fn path_edges() {
+    let root = "10000002 20030001";
+    let search = |path| Call::OldSearch { whole: bytes(root), path };
+    let stars = |count| path(0, &[vec![EMPTY], vec![STAR; count]].concat());
+    gives(search(stars(62)), "f0000002 e0000001");
+    refuses(search(stars(63)), 2);
+    gives(search(path(15, &or_of(FULL, 15))), "f0000001");
+    refuses(search(path(15, &or_of(FULL, 16))), 9);
+    refuses(search(path(0, &or_of(FULL, 16))), 9);
+    gives(search(bytes("40000002 60000000")), "f0000002 e0000001");
+    gives(old_search(W, "40000002 60000000"), "f0000002 e0000001");
+    let waiting = |count| path(0, &[vec![EMPTY; count], vec![THEN; count - 1]].concat());
+    gives(search(waiting(16)), "f0000002 e0000001");
+    refuses(search(waiting(17)), 9);
+}
+
+#[test]
+fn groups_and_ranges_at_their_ends() {
+    let groups = "0-4095 0-1023 0-255 1024-1535 1536-1791 1792-2047 2048-3071 4032-4095";
+    for (group, ends) in groups.split(' ').enumerate() {
+        let ends: Vec<i32> = ends.split('-').map(|end| end.parse().expect(end)).collect();
+        for label in
+            [ends[0] - 1, ends[0], ends[1], ends[1] + 1].into_iter().filter(|l| (0..4096).contains(l))
+        {
+            let whole =
+                bytes_of(&[0x1000_0004, 0x2003_0001, 0x3000_0002 | (label as u32) << 16, 0x2000_0002]);
+            let inside = ends[0] <= label && label <= ends[1];
+            let list = if inside { "f0000002 e0000002" } else { "f0000001" };
+            let range = 0x5000_0000 | (ends[1] << 12) as u32 | ends[0] as u32;
+            for word in [0x5100_0000 | group as u32, range] {
+                gives(Call::OldSearch { whole: whole.clone(), path: path(1, &[word]) }, list);
+            }
+        }
+    }
+}
+
+/// Runs a question over a cut of a whole, replies in order of site: the list and the first replies.
+fn question(whole: &str, cuts: &[u8], sites: u32, path: &str) -> (Vec<u32>, Vec<Vec<u32>>) {
+    let accepted = |call: Call| {
+        let (number, words) = made(&call);
+        assert_eq!(number, 0, "{call:x?}");
+        words
+    };
+    let parts: Vec<Vec<u8>> = (0..sites).map(|site| bytes_of(&accepted(cut(whole, cuts, site)))).collect();
+    let reply = |part: &Vec<u8>| accepted(Call::FirstReply { part: part.clone(), path: bytes(path) });
+    let firsts: Vec<Vec<u32>> = parts.iter().map(reply).collect();
+    let calls = bytes_of(&accepted(Call::CallList { bundle: bytes_of(&firsts.concat()) }));
+    let answer = |part: &Vec<u8>| {
+        let (part, path, calls) = (part.clone(), bytes(path), calls.clone());
+        accepted(Call::SecondReply { part, path, calls })
+    };
+    let seconds: Vec<Vec<u32>> = parts.iter().map(answer).collect();
+    (accepted(Call::Join { bundle: bytes_of(&seconds.concat()) }), firsts)
+}
+
+#[test]
+fn visited_nodes_have_states() {
+    gives(old_search(W, Q), "f0000002 e0000002");
+    for cuts in [[0, 0, 0], [0, 1, 0], [0, 1, 2], [1, 0, 0]] {
+        assert_eq!(question(W, &cuts, 3, Q).0, words("f0000002 e0000002"));
+    }
+}
+
+#[test]
+fn walks_resume_at_doors() {
+    let (list, firsts) = question(W, &[0, 1, 0], 2, Q);
+    assert_eq!(list, words("f0000002 e0000002"));
+    assert_eq!(firsts[1], words("71300004 80000002 90000001 a0000032"));
+}
+
+#[test]
+fn walks_go_on_through_doors() {
+    let whole = "10000006 20030001 30050003 20000002 20000003 30060002";
+    let path = "40200004 50005005 50006006 60000001";
+    let part = "10000005 20030001 30050003 20010003 30060002";
+    gives(first_reply(part, path), "70200007 80010001 90000000 a0000022 80000003 90000001 a0000022");
+    assert_eq!(question(whole, &[0, 1, 0], 2, path).0, words("f0000002 e0000002"));
+}
+
+#[test]
+fn a_star_needs_no_turn() {
+    let whole = "10000006 20030001 30050002 20000002 30060003 20000003";
+    gives(old_search(whole, P), "f0000002 e0000002");
+    for cuts in [[0, 0, 0], [0, 1, 0], [0, 1, 2]] {
+        assert_eq!(question(whole, &cuts, 3, P).0, words("f0000002 e0000002"));
+    }
+}

@@ -1,0 +1,114 @@
+//! The evaluation's own meaning of an expression, by three methods that must agree.
+
+use mowqachi_tests::evaluation::meaning::{listed_by_flow, listed_by_relation};
+use mowqachi_tests::evaluation::path::{read_path, Expression, Path};
+use mowqachi_tests::evaluation::states::States;
+use mowqachi_tests::evaluation::words::bytes_of;
+use mowqachi_tests::generate::path::{alphabet, path};
+use mowqachi_tests::random::{cases, seed, Random};
+use std::collections::BTreeSet;
+
+/// An expression that may have no word, for derivatives.
+type Derived = Option<Expression>;
+
+fn or(first: Derived, second: Derived) -> Derived {
+    match (first, second) {
+        (Some(first), Some(second)) if first == second => Some(first),
+        (Some(first), Some(second)) => Some(Expression::Or(Box::new(first), Box::new(second))),
+        (first, second) => first.or(second),
+    }
+}
+
+fn then(first: Derived, second: &Expression) -> Derived {
+    first.map(|first| match first {
+        Expression::Empty => second.clone(),
+        _ => Expression::Then(Box::new(first), Box::new(second.clone())),
+    })
+}
+
+fn has_empty_word(expression: &Expression) -> bool {
+    match expression {
+        Expression::Empty | Expression::Star(_) => true,
+        Expression::Label(_) => false,
+        Expression::Then(first, second) => has_empty_word(first) && has_empty_word(second),
+        Expression::Or(first, second) => has_empty_word(first) || has_empty_word(second),
+    }
+}
+
+/// Brzozowski's derivative by a letter that the positions in `holds` match.
+fn derivative(expression: &Expression, holds: &dyn Fn(usize) -> bool) -> Derived {
+    match expression {
+        Expression::Empty => None,
+        Expression::Label(position) => holds(*position).then_some(Expression::Empty),
+        Expression::Or(first, second) => or(derivative(first, holds), derivative(second, holds)),
+        Expression::Star(inner) => then(derivative(inner, holds), expression),
+        Expression::Then(first, second) => {
+            let rest = then(derivative(first, holds), second);
+            match has_empty_word(first) {
+                true => or(rest, derivative(second, holds)),
+                false => rest,
+            }
+        }
+    }
+}
+
+/// Whether the labels, in order, are a word of the path's expression.
+fn word_by_derivatives(path: &Path, word: &[u32]) -> bool {
+    let step = |expression: Expression, label: &u32| {
+        derivative(&expression, &|position| path.label(position).holds(*label))
+    };
+    let left = word.iter().try_fold(path.expression.clone(), step);
+    left.is_some_and(|rest| has_empty_word(&rest))
+}
+
+/// The same by the states: some run over the word ends in an accepting one.
+fn word_by_states(path: &Path, states: &States, word: &[u32]) -> bool {
+    let mut at = BTreeSet::from([0]);
+    for label in word {
+        at = at.into_iter().flat_map(|q| states.after(path, q, *label)).collect();
+    }
+    at.into_iter().any(|q| states.accepts[q])
+}
+
+/// The same by walks over a chain of nodes with the word's labels between them.
+fn chain(word: &[u32]) -> Vec<Vec<(u32, usize)>> {
+    let link = |(at, label): (usize, &u32)| vec![(*label, at + 1)];
+    word.iter().enumerate().map(link).chain([vec![]]).collect()
+}
+
+#[test]
+fn words() {
+    let mut members = 0;
+    for case in 0..cases() * 7 / 100 {
+        let mut random = Random::new(seed(), "words", case);
+        let alphabet = alphabet(&mut random);
+        let operands = random.between(1, 6);
+        let path = read_path(&bytes_of(&path(&mut random, &alphabet, operands))).expect("a path");
+        let states = States::of(&path);
+        for length in 0..6 {
+            let word: Vec<u32> = (0..length).map(|_| random.pick(&alphabet)).collect();
+            let member = word_by_derivatives(&path, &word);
+            members += u64::from(member);
+            assert_eq!(word_by_states(&path, &states, &word), member, "{path:?} {word:?}");
+            let listed = listed_by_relation(&path, &chain(&word), 0);
+            assert_eq!(listed.contains(&length), member, "{path:?} {word:?}");
+        }
+    }
+    assert!(members > cases() / 20, "too few words belong: {members}");
+}
+
+#[test]
+fn lists() {
+    for case in 0..cases() * 3 / 100 {
+        let mut random = Random::new(seed(), "lists", case);
+        let alphabet = alphabet(&mut random);
+        let operands = random.between(1, 15);
+        let path = read_path(&bytes_of(&path(&mut random, &alphabet, operands))).expect("a path");
+        let count = random.between(1, 20);
+        let link = |random: &mut Random| (random.pick(&alphabet), random.below(count));
+        let mut node = || (0..random.below(4)).map(|_| link(&mut random)).collect();
+        let links: Vec<Vec<(u32, usize)>> = (0..count).map(|_| node()).collect();
+        let root = random.below(count);
+        assert_eq!(listed_by_relation(&path, &links, root), listed_by_flow(&path, &links, root));
+    }
+}

@@ -1,0 +1,197 @@
+//! Demand 3: whole questions over random plants, true cuts, paths and orders, run by the library and held to the evaluation.
+
+use mowqachi_tests::beside::Call;
+use mowqachi_tests::evaluation::part::{Node, Part};
+use mowqachi_tests::evaluation::path::{read_path, Path};
+use mowqachi_tests::evaluation::replies::Pair;
+use mowqachi_tests::evaluation::states::States;
+use mowqachi_tests::evaluation::words::*;
+use mowqachi_tests::generate::question::{question, Question};
+use mowqachi_tests::random::{cases, seed, Naming, Random};
+use std::collections::{BTreeMap, BTreeSet};
+
+/// How a question may end, and two sorts of plant that must have been asked about.
+const ENDS: [&str; 8] = [
+    "joined",
+    "joined, further doors",
+    "joined, sixteen sites",
+    "joined, plant over one file",
+    "first reply over its limit",
+    "call list over its limit",
+    "first bundle over its limit",
+    "second bundle over its limit",
+];
+
+/// The library's number and words, held to the evaluation's.
+fn made(random: &mut Random, call: Call) -> Result<Vec<u32>, Refusal> {
+    let room = call.least_room();
+    call.check(random, room)
+}
+
+/// The files, each once, in any order.
+fn bundle(random: &mut Random, files: &[Vec<u32>]) -> Vec<u8> {
+    let mut order: Vec<&Vec<u32>> = files.iter().collect();
+    random.shuffle(&mut order);
+    order.into_iter().flat_map(|file| bytes_of(file)).collect()
+}
+
+/// The bound on traffic: reach words of a first reply by doors, outside targets and n.
+fn check_traffic(part: &Part, n: usize, reply: &[u32]) {
+    let reach = reply.iter().filter(|word| kind(**word) == REACH).count();
+    let bound = part.doors().count() * part.outside_targets().len() * n * (n + 1);
+    assert!(reach <= bound, "{reach} reach words, bound {bound}");
+}
+
+/// The pairs in which walks of the plant from its root cross between parts, and the root with 0.
+fn crossings(question: &Question, path: &Path) -> BTreeSet<Pair> {
+    let states = States::of(path);
+    let sites: BTreeMap<u32, u32> = question
+        .parts
+        .iter()
+        .flat_map(|part| part.nodes.iter().map(|node| (node.number, part.site)))
+        .collect();
+    let root = (question.plant.root, 0);
+    let (mut seen, mut calls) = (BTreeSet::from([root]), BTreeSet::from([root]));
+    let mut waiting = vec![root];
+    while let Some((node, q)) = waiting.pop() {
+        for (label, target) in &question.plant.nodes[&node] {
+            for p in states.after(path, q, *label) {
+                let pair = (*target, p);
+                calls.extend((sites[&node] != sites[target]).then_some(pair));
+                if seen.insert(pair) {
+                    waiting.push(pair);
+                }
+            }
+        }
+    }
+    calls
+}
+
+fn first_trip(random: &mut Random, question: &Question, path: &Path) -> Result<Vec<Vec<u32>>, &'static str> {
+    let mut replies = vec![];
+    for part in &question.parts {
+        let call = Call::FirstReply { part: bytes_of(&part.words()), path: bytes_of(&question.path) };
+        match made(random, call) {
+            Ok(reply) => {
+                check_traffic(part, path.n(), &reply);
+                replies.push(reply);
+            }
+            Err(refusal) => {
+                assert_eq!(refusal.number, 15);
+                return Err("first reply over its limit");
+            }
+        }
+    }
+    Ok(replies)
+}
+
+fn call_list(
+    random: &mut Random,
+    question: &Question,
+    path: &Path,
+    replies: &[Vec<u32>],
+) -> Result<Vec<u32>, &'static str> {
+    let bundle = bundle(random, replies);
+    let over = bundle.len() > 4 * BUNDLE_LIMIT;
+    let made = made(random, Call::CallList { bundle });
+    if over {
+        assert_eq!(made.expect_err("the bundle is too long").number, 2);
+        return Err("first bundle over its limit");
+    }
+    let owed: Vec<u32> =
+        crossings(question, path).into_iter().map(|(node, p)| CALL << 28 | node << 4 | p as u32).collect();
+    match made {
+        Ok(list) => {
+            assert_eq!(list, file(CALLS, 0, path.n() as u32, &owed));
+            Ok(list)
+        }
+        Err(refusal) => {
+            assert!(refusal.number == 15 && owed.len() + 1 > FILE_LIMIT);
+            Err("call list over its limit")
+        }
+    }
+}
+
+fn second_trip(random: &mut Random, question: &Question, calls: &[u32]) -> Vec<Vec<u32>> {
+    let mut reply = |part: &Part| {
+        let [part, path, calls] = [&part.words()[..], &question.path, calls].map(bytes_of);
+        made(random, Call::SecondReply { part, path, calls }).expect("second replies have no limit to pass")
+    };
+    question.parts.iter().map(&mut reply).collect()
+}
+
+/// The plant as one file, if it fits.
+fn one_file(question: &Question) -> Option<Vec<u32>> {
+    let node = |(number, links): (&u32, &BTreeSet<(u32, u32)>)| {
+        let root = *number == question.plant.root;
+        Node { number: *number, door: root, root, edges: links.iter().copied().collect() }
+    };
+    let whole = Part { site: 0, nodes: question.plant.nodes.iter().map(node).collect() };
+    Some(whole.words()).filter(|words| words.len() <= FILE_LIMIT)
+}
+
+fn check_list(random: &mut Random, question: &Question, path: &Path, list: &[u32], seconds: &[Vec<u32>]) {
+    assert_eq!(list, question.plant.search(path), "demand 2's list");
+    let mut answers: Vec<u32> = seconds.iter().flat_map(|reply| reply[1..].to_vec()).collect();
+    answers.sort();
+    assert_eq!(answers, list[1..], "the second replies hold the listed nodes, each once");
+    if let Some(whole) = one_file(question) {
+        let (whole, path) = (bytes_of(&whole), bytes_of(&question.path));
+        let old = made(random, Call::OldSearch { whole, path });
+        assert_eq!(old.expect("the plant fits one file"), list, "the old search's list");
+    }
+}
+
+/// Runs one question to its end.
+fn ask(random: &mut Random, question: &Question) -> Result<&'static str, &'static str> {
+    let path = read_path(&bytes_of(&question.path)).expect("paths are made right");
+    let firsts = first_trip(random, question, &path)?;
+    let calls = call_list(random, question, &path, &firsts)?;
+    let seconds = second_trip(random, question, &calls);
+    let bundle = bundle(random, &seconds);
+    let over = bundle.len() > 4 * BUNDLE_LIMIT;
+    let joined = made(random, Call::Join { bundle });
+    if over {
+        assert_eq!(joined.expect_err("the bundle is too long").number, 2);
+        return Err("second bundle over its limit");
+    }
+    check_list(random, question, &path, &joined.expect("honest replies join"), &seconds);
+    let crossed: BTreeSet<u32> = question.parts.iter().flat_map(Part::outside_targets).collect();
+    let further = |part: &Part| part.doors().any(|door| !door.root && !crossed.contains(&door.number));
+    Ok(match () {
+        () if one_file(question).is_none() => "joined, plant over one file",
+        () if question.parts.len() == 16 => "joined, sixteen sites",
+        () if question.parts.iter().any(further) => "joined, further doors",
+        () => "joined",
+    })
+}
+
+/// Makes this share of the cases, and goes on for a while if some end has not been met.
+fn run(stream: &'static str) {
+    let mut seen: BTreeMap<&str, u64> = ENDS.iter().map(|end| (*end, 0)).collect();
+    let wanted = cases() * 9 / 100;
+    let mut made = 0;
+    while made < wanted || made < wanted + 20_000 && seen.values().any(|count| *count == 0) {
+        let _naming = Naming(stream, made);
+        let mut random = Random::new(seed(), stream, made);
+        let question = question(&mut random);
+        let end = ask(&mut random, &question).unwrap_or_else(|end| end);
+        *seen.get_mut(end).expect("one of the ends") += 1;
+        made += 1;
+    }
+    seen.iter().for_each(|(end, count)| println!("{stream} {count:7} {end}"));
+    println!("{stream} {made:7} cases");
+    assert!(seen.values().all(|count| *count > 0), "some end was never met");
+}
+
+// Two tests, so that two cores share them.
+
+#[test]
+fn questions_a() {
+    run("questions a");
+}
+
+#[test]
+fn questions_b() {
+    run("questions b");
+}
