@@ -1,3 +1,4 @@
+pub mod Seeking
 pub mod Repeats
 pub mod Strays
 pub mod Stretches

@@ -20,7 +20,7 @@ ghost use mathlib.Core.Path.{_≡_};
 ghost use mathlib.Core.Bool.{not, _&&_};
 ghost use mathlib.Core.List.{map};
 ghost use Prim.Native.Nat.{suc, _-_, _≤_};
-ghost use lib.Dec.{eqb, ltb};
+ghost use lib.Dec.{eqb};
 ghost use lib.ListN.{length};
 ghost use Rattle.sets.specs.Sets.{any, filter};
 ghost use Rattle.files.specs.Word.{words};
@@ -29,6 +29,7 @@ ghost use Rattle.files.specs.Outcome.{zeros};
 ghost use Rattle.files.specs.Field.{kindOf, sizeOf, nodeOf, pairOf, pairNode, doorRootOf};
 ghost use Rattle.files.specs.Reply.{isDoorWord, roots};
 ghost use Rattle.files.specs.Bundle.{headers, headersCheck, twice, clashing, doorOf, strays};
+ghost use Rattle.bundles.specs.Seek.{FirstThat};
 
 // Whether a header's site was seen, or its n is another.
 fn clashes(sites: u16, n: u32, h: u32) -> bool
@@ -149,7 +150,7 @@ fn is_door_of(w: u32, x: u32) -> bool
 
 // The index of the first reach word whose node is no door, or the number of words: there the scan stops.
 fn first_stray(bundle: &[u8]) -> usize
-    ensures { λ r. ⌜ ltb r (length (words (now (bundle .entry)))) ≡ any (strays (words (now (bundle .entry)))) (words (now (bundle .entry))) ⌝ }
+    ensures { λ r. ⌜ FirstThat (strays (words (now (bundle .entry)))) (words (now (bundle .entry))) r ⌝ }
 {
     let count = bundle.len() / 4;
     let mut i = 0;

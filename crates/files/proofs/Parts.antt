@@ -1,23 +1,24 @@
--- What is known of an accepted part: of each word after others, that its nodes ascend, that a root is a door and that there is at most one;
+-- What is known of an accepted part: of each word after others, that its nodes ascend and the edges of each, that a root is a door and that there is at most one;
 -- and of an accepted whole. Assumes nothing.
 use mathlib.Core.Path.{_≡_, refl}
-use mathlib.Core.Logic.{_↔_, _⊎_, inl, inr}
-use mathlib.Core.Bool.{true, false, cond, not, _||_, or-true, or-false}
-use mathlib.Core.List.{List, [], _∷_}
+use mathlib.Core.Logic.{_↔_, inl, inr}
+use mathlib.Core.Bool.{Bool, true, false, cond, _&&_, _||_, or-false}
+use mathlib.Core.List.{List, [], _∷_, map}
 use Prim.Native.Nat.{ℕ, suc, _≤_, _<_}
 use native.Mathlib.Omega.{arith}
-use lib.Dec.{T}
+use lib.Dec.{T, eqb}
 use lib.ListN.{length, drop, getD}
-use borrow.Author.Tests.{ne-eqb}
-use Rattle.sets.specs.Sets.{Mem, here, there, Ascending, filter, member, _⊆_}
-use Rattle.sets.proofs.Sets.{least, member-iff}
-use Rattle.sets.proofs.Tests.{either, passed, is-true, same-test, and-iff, not-iff, implies-iff, le-iff, eq-iff}
+use borrow.Author.Tests.{eqb-true, ne-eqb}
+use Rattle.sets.specs.Sets.{Mem, there, Ascending, filter, member, _⊆_}
+use Rattle.sets.proofs.Sets.{member-iff}
+use Rattle.sets.proofs.Tests.{either, is-true, same-test, and-iff, not-iff, implies-iff, le-iff, eq-iff}
 use Rattle.sets.proofs.Filter.{any-iff, all-that-iff, filter-filter, map-filter-iff, map-filter-mono, map-filter-ascending}
 use Rattle.files.specs.Field.{bits, kindOf, sizeOf, nodeOf, doorOf, rootOf, targetOf}
 use Rattle.files.specs.Refuse.{headerCheck}
 use Rattle.files.specs.declared.part.Seen.{Seen}
-use Rattle.files.specs.Part.{isNode, isEdge, isRoot, isDoor, start, next, wordCheck, scan, partCheck, wholeCheck, nodes, roots, doors, edges}
+use Rattle.files.specs.Part.{isNode, isEdge, isRoot, isDoor, start, next, wordCheck, scan, partCheck, wholeCheck, nodes, roots, doors, front, edges}
 use Rattle.files.proofs.Checks.{then-iff, unless-iff, checks}
+use Rattle.files.proofs.Ordered.{Rising, adds, skips, ends, restarts, scan-checked, scan-rises}
 use Rattle.files.proofs.Blocks.{edge-of}
 
 -- Words one after another
@@ -59,77 +60,33 @@ next-node st w n = rw n
 pub next-edge : (st : Seen) (w : ℕ) → isNode w ≡ false → next st w ≡ record { last = w; low = st .low; rooted = st .rooted }
 next-edge st w n = rw (n, or-false)
 
--- what a word is for the doors: a door, above all nodes before it, with at most one root; or it changes nothing for them
-pub record DoorWord (st : Seen) (w : ℕ) : Type 0 where
-  pub is : isDoor w ≡ true
-  pub above : st .low ≤ nodeOf w
-  pub low-is : next st w .low ≡ suc (nodeOf w)
-  pub rooted-is : next st w .rooted ≡ (st .rooted || rootOf w)
-  pub one-root : T (not (rootOf w) || not (st .rooted))
-
-pub record OtherWord (st : Seen) (w : ℕ) : Type 0 where
-  pub is : isDoor w ≡ false
-  pub above : st .low ≤ next st w .low
-  pub rooted-is : next st w .rooted ≡ st .rooted
-
-pub door-or-other : (st : Seen) (w : ℕ) → wordCheck st w ≡ 0 → DoorWord st w ⊎ OtherWord st w
-door-or-other st w c = elim (either (isNode w)) [
-  | inl n ↦
-      let h = node-iff st w n .0 c in
-      elim (either (doorOf w)) [
-        | inl d ↦ inl (record {
-          is = rw (n, d);
-          above = h .above;
-          low-is = rw n;
-          rooted-is = rw n;
-          one-root = simp (implies-iff, not-iff) (λ r. h .root r .1);
-        })
-        | inr d ↦ elim (either (rootOf w)) [
-          | inl r ↦ absurd (rw d at (h .root (passed r) .0))
-          | inr r ↦ inr (record { is = rw (n, d); above = rw n (omega (arith, h .above)); rooted-is = rw (n, r) (or-false (st .rooted)) })
-        ]
-      ]
-  | inr n ↦ inr (record { is = rw n; above = rw n (omega arith); rooted-is = rw n (or-false (st .rooted)) })
-]
-
--- node numbers ascend, from the least that may come next
-scan-ascending : (st : Seen) (ws : List ℕ) → scan st ws ≡ 0 → Ascending (nodes ws) × ((y : ℕ) → Mem y (nodes ws) → st .low ≤ y)
-scan-ascending st [] s = (tt, λ y m. elim m [ ])
-scan-ascending st (w ∷ ws) s =
-    let (c, t) = then-iff (wordCheck st w) (scan (next st w) ws) .0 s in
-    elim (either (isNode w)) [
-      | inl n ↦
-          let (a, l) = scan-ascending _ ws (rw (next-node st w n) at t) in
-          let low = node-iff st w n .0 c .above in
-          rw n ((l, a), λ y m. omega (arith, least (l, a) m))
-      | inr n ↦ rw n (scan-ascending _ ws (rw (next-edge st w n) at t))
-    ]
+-- edge words ascend up to the next node word
+front-rises : (st : Seen) (ws : List ℕ) → scan st ws ≡ 0 → Rising (suc (st .last)) (front ws)
+front-rises st ws = scan-rises wordCheck next (λ st. 0) (λ st. suc (st .last)) front refl st ws (λ u v vs i c s. elim (either (isNode v)) [
+  | inl n ↦ ends (rw (eqb-true (kindOf v) 2 n))
+  | inr n ↦ let h = edge-iff u v n .0 c in adds v (rw (h .edge)) (h .above) (omega arith)
+])
 
 -- at most one root, and none after one
 scan-roots : (st : Seen) (ws : List ℕ) → scan st ws ≡ 0 → length (roots ws) ≤ cond (st .rooted) 0 1
 scan-roots st [] s = omega arith
 scan-roots st (w ∷ ws) s =
     let (c, t) = then-iff (wordCheck st w) (scan (next st w) ws) .0 s in
-    elim (either (isNode w)) [
-      | inl n ↦
-          let l = scan-roots _ ws (rw (next-node st w n) at t) in
-          elim (either (rootOf w)) [
-            | inl r ↦
-                let none = rw (r, or-true) at l in
-                let fresh = node-iff st w n .0 c .root (passed r) .1 in
-                rw (n, r) (elim (either (st .rooted)) [ inl q ↦ absurd (fresh (passed q)) | inr q ↦ rw q (omega arith) ])
-            | inr r ↦ rw (n, r) (rw (r, or-false) at l)
-          ]
-      | inr n ↦ rw n (scan-roots _ ws (rw (next-edge st w n) at t))
-    ]
+    go (isRoot w) (st .rooted) (λ r. let (n, r) = and-iff (isNode w) (rootOf w) .0 r in node-iff st w (is-true (isNode w) n) .0 c .root r .1) (scan-roots (next st w) ws t)
+  where
+    go : (root rooted : Bool) → (T root → T rooted → ⊥) → length (roots ws) ≤ cond (rooted || root) 0 1
+        → length (map nodeOf (cond root (w ∷ filter isRoot ws) (filter isRoot ws))) ≤ cond rooted 0 1
+    go true true f l = absurd (f tt tt)
+    go true false f l = omega arith
+    go false true f l = l
+    go false false f l = l
 
 -- a root is a door
 scan-doors : (st : Seen) (ws : List ℕ) → scan st ws ≡ 0 → (w : ℕ) → Mem w ws → T (isRoot w) → T (isDoor w)
-scan-doors st (v ∷ ws) s w (here q) t =
-    let (n, r) = and-iff (isNode v) (rootOf v) .0 (rw q at t) in
-    let c = then-iff (wordCheck st v) _ .0 s .0 in
-    rw q (and-iff (isNode v) (doorOf v) .1 (n, node-iff st v (is-true (isNode v) n) .0 c .root r .0))
-scan-doors st (v ∷ ws) s w (there m) t = scan-doors (next st v) ws (then-iff (wordCheck st v) _ .0 s .1) w m t
+scan-doors st ws s w m t =
+    let (n, r) = and-iff (isNode w) (rootOf w) .0 t in
+    let (u, c) = scan-checked wordCheck next (λ st. 0) st ws s w m in
+    and-iff (isNode w) (doorOf w) .1 (n, node-iff u w (is-true (isNode w) n) .0 c .root r .0)
 
 -- Accepted parts
 
@@ -155,7 +112,16 @@ module _ (f : List ℕ) (c : partCheck f ≡ 0) where
   read = part-read f c .words
 
   pub nodes-ascending : Ascending (nodes (drop 1 f))
-  nodes-ascending = scan-ascending start (drop 1 f) read .0
+  nodes-ascending = scan-rises wordCheck next (λ st. 0) (λ st. st .low) nodes refl start (drop 1 f) (λ u v vs i c s. elim (either (isNode v)) [
+    | inl n ↦ adds (nodeOf v) (rw n) (node-iff u v n .0 c .above) (rw n (omega arith))
+    | inr n ↦ skips (rw n) (rw n (omega arith))
+  ]) read .1
+
+  pub edges-ascending : (x : ℕ) → Ascending (edges (drop 1 f) x)
+  edges-ascending x = scan-rises wordCheck next (λ st. 0) (λ st. 0) (λ ws. edges ws x) refl start (drop 1 f) (λ u v vs i c s. elim (either (isNode v && eqb (nodeOf v) x)) [
+    | inl n ↦ restarts (rw n (λ y m. omega arith, front-rises (next u v) vs s .1))
+    | inr n ↦ skips (rw n) (omega arith)
+  ]) read .1
 
   pub doors-ascending : Ascending (doors (drop 1 f))
   doors-ascending =

@@ -23,7 +23,7 @@ pub enum ExprWord {
     Wrong,
 }
 
-pub fn is_label(w: u32) -> bool
+fn is_label(w: u32) -> bool
     ensures { λ r. ⌜ r ≡ isLabel w ⌝ }
 {
     kind(w) == 5
@@ -53,7 +53,7 @@ fn group(w: u32) -> u32
     w % 8
 }
 
-pub fn operator(w: u32) -> u32
+fn operator(w: u32) -> u32
     ensures { λ r. ⌜ r ≡ operatorOf w ⌝ }
 {
     w % 4

@@ -1,6 +1,6 @@
 -- The hub's call list, of an accepted bundle: the rows of the bundle are those of its files; the called pairs are all that is reached by
 -- the rows from the root's; and the call list is an accepted file. Assumes nothing.
-use mathlib.Core.Path.{_≡_, refl, _∙_, ap}
+use mathlib.Core.Path.{_≡_, refl, sym, _∙_, ap}
 use mathlib.Core.Bool.{_&&_}
 use mathlib.Core.List.{List, map, flatten, Memᴰ·of-map}
 use Prim.Native.Nat.{ℕ, suc, _*_, _^_, _≤_, _<_}
@@ -8,9 +8,9 @@ use native.Mathlib.Omega.{arith}
 use lib.ListN.{length, getD, drop, length-map}
 use Rattle.sets.specs.Sets.{Mem, Lists, filter}
 use Rattle.sets.specs.Reach.{Reach}
-use Rattle.sets.proofs.Sets.{flatten-iff}
-use Rattle.sets.proofs.Reach.{closure-lists, reach-least, reach-is-least}
-use Rattle.files.specs.Field.{nodeOf, doorRootOf, pair, pairOf, pairNode, pairState, file, callWord}
+use Rattle.sets.proofs.Sets.{flatten-iff, unique}
+use Rattle.sets.proofs.Reach.{closure-lists, reach-least, reach-is-least, least-unique}
+use Rattle.files.specs.Field.{labelsOf, nodeOf, doorRootOf, pair, pairOf, pairNode, pairState, file, callWord}
 use Rattle.files.specs.Word.{bytesOf}
 use Rattle.files.specs.Outcome.{outcome}
 use Rattle.files.specs.Bundle.{firstBundleCheck}
@@ -60,6 +60,13 @@ module _ (bundle : List ℕ) where
     set = reach-is-least (called bundle) called-lists;
     is = refl;
   }
+
+  -- and there is no other
+  pub call-list-unique : {f g : List ℕ} → IsCallList bundle f → IsCallList bundle g → f ≡ g
+  call-list-unique a b =
+      let i = least-unique (a .set) (b .set) in
+      a .is ∙ ap (λ cs. file 11 0 (labelsOf (getD bundle 0 0)) (map callWord cs))
+      (unique (a .pairs) (b .pairs) (a .ascending) (b .ascending) (λ c m. i c .0 m, λ c m. i c .1 m)) ∙ sym (b .is)
 
 -- Of an accepted bundle
 

@@ -3,12 +3,11 @@ use mathlib.Core.Path.{_≡_, refl, sym, ap, subst, _∙_}
 use mathlib.Core.Logic.{_⊎_, inl, inr, ⊎-elim}
 use mathlib.Core.Bool.{Bool, true, false, not, _&&_, _||_, or-false, and-true}
 use mathlib.Core.List.{List}
-use Prim.Native.Nat.{ℕ, _+_, _/_, _%_, _≤_, _<_}
+use Prim.Native.Nat.{ℕ, _/_, _%_, _≤_, _<_}
 use native.Mathlib.Omega.{arith}
-use borrow.Author.Count.{below-more}
 use borrow.Author.Tests.{eqb-true, eq-eqb}
 use lib.Dec.{eqb}
-use lib.ListN.{length, getD}
+use lib.ListN.{length}
 use Rattle.sets.specs.States.{hasState}
 use Rattle.sets.specs.Table.{half, putHalf}
 use Rattle.sets.proofs.Cases.{eq-or-ne, ne-cases, or-elim, clash}
@@ -16,7 +15,8 @@ use Rattle.sets.proofs.Tables.{length-put, half-same, half-other, half-apart}
 use Rattle.sets.proofs.StateSets.{has-empty}
 use Rattle.files.specs.Word.{words}
 use Rattle.files.proofs.Words.{words-length}
-use Rattle.hub_calls.specs.Search.{isDoorOf, Sought, Found, DoorAt, reachedAt, pendingAt, Growing, Grown, Placed}
+use Rattle.bundles.specs.Seek.{FirstThat}
+use Rattle.hub_calls.specs.Search.{isDoorOf, DoorAt, reachedAt, pendingAt, Growing, Grown, Placed}
 
 -- what was entered, with what is entered after
 fresh-then : (r r′ r″ p p′ p″ : Bool) → (r ≡ true → r′ ≡ true) → (r′ ≡ true → r″ ≡ true) → p′ ≡ (p || (r′ && not r)) → p″ ≡ (p′ || (r″ && not r′))
@@ -153,21 +153,7 @@ module _ (w : List ℕ) {w₁ w₂ : List ℕ} {j q r p : ℕ} {b : Bool} (u v :
 
 -- A pair at its node's door
 
-pub sought-first : (s : List ℕ) (x : ℕ) → Sought (words s) x 0
-sought-first s x = record { within = omega arith; before = λ i l. absurd (omega arith) }
-
-module _ (s : List ℕ) {x k : ℕ} (f : Sought (words s) x k) where
-  module _ {w : ℕ} {b : Bool} (e : w ≡ getD (words s) k 0) (h : b ≡ isDoorOf x w) where
-    pub sought-more : b ≡ false → k < length s / 4 → Sought (words s) x (k + 1)
-    sought-more n l = record { within = omega (arith, words-length s); before = below-more _ _ (f .before) (rw (← e, ← h) n) }
-
-    pub sought-found : b ≡ true → Found (words s) x k
-    sought-found n = record { sought = f; found = λ l. rw (← e, ← h) n }
-
-  pub sought-none : length s / 4 ≤ k → Found (words s) x k
-  sought-none n = record { sought = f; found = λ l. absurd (omega (arith, words-length s)) }
-
-pub found-door : (s : List ℕ) (x : ℕ) {j : ℕ} → j < length s / 4 → Found (words s) x j → DoorAt (words s) x j
+pub found-door : (s : List ℕ) (x : ℕ) {j : ℕ} → j < length s / 4 → FirstThat (isDoorOf x) (words s) j → DoorAt (words s) x j
 found-door s x {j} l f =
     let h : j < length (words s) = omega (arith, words-length s) in
     record { within = h; is = f .found h; first = f .sought .before }
@@ -176,13 +162,13 @@ found-door s x {j} l f =
 pub door-unique : {ws : List ℕ} {x i j : ℕ} → DoorAt ws x i → DoorAt ws x j → i ≡ j
 door-unique {i = i} {j = j} a b = ⊎-elim (λ e. e) (λ n. absurd (⊎-elim (λ l. clash (a .is) (b .first i l)) (λ l. clash (b .is) (a .first j l)) (ne-cases i j n))) (eq-or-ne i j)
 
-pub pair-entered : (s : List ℕ) (c : ℕ) {w w′ : List ℕ} {j : ℕ} → Grown (λ i p. (i ≡ j) × (p ≡ c % 16)) w w′ → Found (words s) (c / 16) j → j < length s / 4
+pub pair-entered : (s : List ℕ) (c : ℕ) {w w′ : List ℕ} {j : ℕ} → Grown (λ i p. (i ≡ j) × (p ≡ c % 16)) w w′ → FirstThat (isDoorOf (c / 16)) (words s) j → j < length s / 4
     → Grown (Placed (words s) (λ d. d ≡ c)) w w′
 pair-entered s c {j = j} g f l =
     let d : DoorAt (words s) (c / 16) j = found-door s (c / 16) l f in
     grown-iff g (λ i p m. (c, refl, rw (m .0) d, m .1)) (λ i p (a, e, b, h). (door-unique (rw e at b) d, h ∙ rw e))
 
-pub pair-lost : (s : List ℕ) (c : ℕ) {w : List ℕ} {j : ℕ} → Found (words s) (c / 16) j → length s / 4 ≤ j → Grown (Placed (words s) (λ d. d ≡ c)) w w
+pub pair-lost : (s : List ℕ) (c : ℕ) {w : List ℕ} {j : ℕ} → FirstThat (isDoorOf (c / 16)) (words s) j → length s / 4 ≤ j → Grown (Placed (words s) (λ d. d ≡ c)) w w
 pair-lost s c {j = j} f n = growing-first
     (λ i p l (a, e, b, h). clash (rw e at (b .is)) (f .sought .before i (omega (arith, b .within, words-length s, n))))
 

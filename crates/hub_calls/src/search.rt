@@ -22,7 +22,8 @@ ghost use lib.ListN.{length, drop};
 ghost use Rattle.sets.specs.States.{hasState};
 ghost use Rattle.files.specs.Word.{words};
 ghost use Rattle.files.specs.Outcome.{zeros};
-ghost use Rattle.hub_calls.specs.Search.{isDoorOf, Found, Grown, Placed, IsRoot, InRows, Searched};
+ghost use Rattle.bundles.specs.Seek.{FirstThat};
+ghost use Rattle.hub_calls.specs.Search.{isDoorOf, Grown, Placed, IsRoot, InRows, Searched};
 
 fn is_door_of(x: u32, w: u32) -> bool
     ensures { λ r. ⌜ r ≡ isDoorOf x w ⌝ }
@@ -32,7 +33,7 @@ fn is_door_of(x: u32, w: u32) -> bool
 
 // The place of the door of x, or the number of words where there is none.
 pub fn find_door(bundle: &[u8], x: u32) -> usize
-    ensures { λ r. ⌜ Found (words (now (bundle .entry))) x r ⌝ }
+    ensures { λ r. ⌜ FirstThat (isDoorOf x) (words (now (bundle .entry))) r ⌝ }
 {
     let count = bundle.len() / 4;
     let mut k = 0;

@@ -7,7 +7,7 @@ use Prim.Native.Nat.{ℕ, suc, _*_, _^_, _≤_, _<_}
 use native.Mathlib.Omega.{arith}
 use lib.ListN.{length, length-map}
 use Rattle.sets.specs.Sets.{Mem, here, Perm, filter, setOf}
-use Rattle.sets.proofs.Sets.{setOf-lists}
+use Rattle.sets.proofs.Sets.{setOf-lists, made-unique}
 use Rattle.sets.proofs.Filter.{filter-length}
 use Rattle.sets.proofs.Lengths.{setOf-length}
 use Rattle.sets.proofs.Distinct.{setOf-perm}
@@ -42,6 +42,10 @@ module _ (bundle : List ℕ) where
   -- so it is a joined list
   pub joined-list : IsJoined bundle (joined bundle)
   joined-list = (listed, setOf-lists (answersOf bundle), joined-is)
+
+  -- and there is no other
+  pub joined-unique : {f g : List ℕ} → IsJoined bundle f → IsJoined bundle g → f ≡ g
+  joined-unique = made-unique (λ xs. file 15 0 0 (map answerWord xs))
 
   -- the words that are no answers leave room for the header
   pub joined-short : length (filter isAnswer bundle) < length bundle → length (joined bundle) ≤ length bundle

@@ -12,13 +12,13 @@ use lib.Bits.{bitAnd, and-le-r}
 use lib.Count.{trailingZeros}
 use borrow.Author.Tests.{eq-eqb, ne-eqb}
 use lib.ListN.{length, getD, drop}
-use Rattle.sets.specs.Sets.{Mem, here, there, Ascending, Lists}
+use Rattle.sets.specs.Sets.{Mem, Lists}
 use Rattle.sets.proofs.Tests.{passed, is-true}
 use Rattle.sets.proofs.Cases.{and-left, and-right, and-intro, clash}
 use Rattle.sets.specs.Reach.{Reach}
 use Rattle.sets.specs.States.{hasState, members}
 use Rattle.sets.proofs.Members.{members-in, in-members}
-use Rattle.sets.proofs.Sets.{lists-unique}
+use Rattle.sets.proofs.Sets.{map-ascending, lists-unique}
 use Rattle.sets.proofs.Filter.{map-append}
 use Rattle.sets.proofs.StateSets.{has-and, has-empty, lowest-is}
 use Rattle.files.specs.Field.{answerWord, pair}
@@ -86,15 +86,6 @@ lands-some ws w a i n = rw n (
   λ k. rw (ne-eqb (bitAnd (reachedOf w i) a) 0 k),
 )
 
--- numbers rise with the positions of nodes
-numbers-ascending : (ws : List ℕ) → Ascending (nodes ws) → (is : List ℕ) → Ascending is → ((i : ℕ) → Mem i is → nodeAt ws i ≡ true) → Ascending (map (number ws) is)
-numbers-ascending ws r [] a n = tt
-numbers-ascending ws r (i ∷ is) a n = (
-  λ x m. let (j, k, e) = Memᴰ·of-map (number ws) is m in
-      rw (← e) (nodes-rise ws i j r (n i (here refl)) (n j (there k)) (a .0 j k)),
-  numbers-ascending ws r is (a .1) (λ j m. n j (there m)),
-)
-
 -- After a search the words are those of the answers.
 module _ (ws : List ℕ) (t : ℕ) (follow w w′ : List ℕ) (s : Searched ws t follow w w′) (laid : Laid ws t w)
     (e : Expr) (cs : List ℕ) (f : Follow e follow) (masked : Masked ws e w) (marks : Marks ws w cs)
@@ -133,8 +124,9 @@ module _ (ws : List ℕ) (t : ℕ) (follow w w′ : List ℕ) (s : Searched ws t
 
   listed : Lists (λ x. Mem x (nodes (drop 1 ws)) × Hit x) (map (number ws) positions)
   listed = record {
-    ascending = numbers-ascending ws (rising ws (laid .accepted)) positions (members-ascending (lands ws w′ accept) 0 (length ws))
-        (λ i m. lands-node ws w′ accept i (landed i m));
+    ascending = map-ascending (number ws) positions
+        (λ i j m k. nodes-rise ws i j (rising ws (laid .accepted)) (lands-node ws w′ accept i (landed i m)) (lands-node ws w′ accept j (landed j k)))
+        (members-ascending (lands ws w′ accept) 0 (length ws));
     sound = λ x m.
         let (i, k, q) = Memᴰ·of-map (number ws) positions m in
         let n = lands-node ws w′ accept i (landed i k) in

@@ -5,7 +5,7 @@ ghost use Prim.Native.Nat.{ℕ, _*_, _<_, _≤_};
 ghost use lib.ListN.{length};
 ghost use Rattle.files.specs.Word.{words};
 ghost use Rattle.files.specs.Field.{rowWord, reachWord};
-ghost use Rattle.output.specs.Writer.{Writes};
+ghost use Rattle.output.specs.Writer.{Puts, Writes};
 ghost use Rattle.slots.specs.Slots.{placeOf};
 ghost use Rattle.listing.specs.Rows.{pairsAt, pairsUpTo};
 use crate::tables::place_at;
@@ -41,27 +41,19 @@ fn write_target(
 }
 
 // The reach words of the outside targets in the first t places.
-fn write_targets(
-    part: &[u8],
-    work: &[u8],
-    t: usize,
-    out: &mut [u8],
-    limit: usize,
-    start: usize,
-) -> usize
+fn write_targets(part: &[u8], work: &[u8], t: usize, out: &mut [u8], limit: usize, start: usize)
     requires { ⌜ (t ≤ 4096) × ((k : ℕ) → k < t → placeOf (now work) k < 4096) × (32768 ≤ length (now work)) × (limit ≤ 8192) × (4 * limit ≤ length (now out)) ⌝ }
-    ensures { λ r. ⌜ Writes limit (length (now (out .entry))) (now (out .entry)) start (now (out .exit)) r (map reachWord (pairsUpTo (words (now (part .entry))) (now (work .entry)) t)) ⌝ }
+    ensures { λ _. ⌜ Puts limit (length (now (out .entry))) (now (out .entry)) start (now (out .exit)) (map reachWord (pairsUpTo (words (now (part .entry))) (now (work .entry)) t)) ⌝ }
 {
-    let mut count = start;
+    let mut at = start;
     let mut k = 0;
     while k < t {
-        count = write_target(part, work, k, out, limit, count);
+        at = write_target(part, work, k, out, limit, at);
         k += 1;
     }
-    count
 }
 
-// How many pairs the row has: the states of each target, counted.
+// How many pairs a row has: the states of each target, counted.
 pub fn row_length(work: &[u8], t: usize) -> usize
     requires { ⌜ (t ≤ 4096) × ((k : ℕ) → k < t → placeOf (now work) k < 4096) × (32768 ≤ length (now work)) ⌝ }
     ensures { λ r. ⌜ ((ws : List ℕ) → r ≡ length (pairsUpTo ws (now (work .entry)) t)) ⌝ }
@@ -76,7 +68,7 @@ pub fn row_length(work: &[u8], t: usize) -> usize
     n
 }
 
-// The row of state q.
+// The row of state q, behind the `start` words that were written; its length is known from its pairs.
 pub fn write_row(
     part: &[u8],
     work: &[u8],
@@ -85,11 +77,11 @@ pub fn write_row(
     out: &mut [u8],
     limit: usize,
     start: usize,
-) -> usize
+)
     requires { ⌜ (t ≤ 4096) × ((k : ℕ) → k < t → placeOf (now work) k < 4096) × (32768 ≤ length (now work)) × (q < 16) × (limit ≤ 8192) × (4 * limit ≤ length (now out)) ⌝ }
-    ensures { λ r. ⌜ Writes limit (length (now (out .entry))) (now (out .entry)) start (now (out .exit)) r (rowWord q ∷ map reachWord (pairsUpTo (words (now (part .entry))) (now (work .entry)) t)) ⌝ }
+    ensures { λ _. ⌜ Puts limit (length (now (out .entry))) (now (out .entry)) start (now (out .exit)) (rowWord q ∷ map reachWord (pairsUpTo (words (now (part .entry))) (now (work .entry)) t)) ⌝ }
 {
     let w = row_word(q);
-    let count = push(out, limit, start, w);
-    write_targets(part, work, t, out, limit, count)
+    let at = push(out, limit, start, w);
+    write_targets(part, work, t, out, limit, at);
 }

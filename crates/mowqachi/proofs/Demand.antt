@@ -2,13 +2,13 @@
 -- owes or is refused with 15, so the run goes on from call to call, or stops at one whose reply or list is over its limit. Assumes nothing.
 use mathlib.Core.Path.{_≡_, refl, sym, _∙_, ap, subst, subst₂}
 use mathlib.Core.Logic.{_↔_, _⊎_, inl, inr}
-use mathlib.Core.List.{List, [], _∷_, map, map-map, flatten, Memᴰ·of-map}
+use mathlib.Core.List.{List, [], _∷_, _++_, map, map-map, flatten, Memᴰ·map, Memᴰ·of-map, Memᴰ·append-left, Memᴰ·append-right}
 use Prim.Native.Nat.{ℕ, _≤_, _<_}
 use native.Mathlib.Omega.{arith}
-use native.Mathlib.Decide.{decLe}
-use lib.ListN.{length, drop, getD}
+use native.Mathlib.Decide.{decLe, decLt}
+use lib.ListN.{length, drop}
 use Rattle.sets.specs.Sets.{Mem, here, there, Perm, Lists}
-use Rattle.sets.proofs.Sets.{lists-iff}
+use Rattle.sets.proofs.Sets.{lists-iff, on-cons}
 use Rattle.sets.proofs.Perm.{perm-same, perm-map}
 use Rattle.files.specs.Word.{words, bytesOf}
 use Rattle.files.specs.Outcome.{Outcome, accepted}
@@ -16,42 +16,32 @@ use Rattle.files.specs.Part.{nodes}
 use Rattle.files.specs.Answers.{answersOf}
 use Rattle.files.proofs.Words.{words-bytes}
 use Rattle.files.proofs.Bytes.{bytes-flatten}
-use Rattle.site_first.specs.First.{firstReplyCall}
+use Rattle.site_first.specs.First.{firstReply, firstReplyCall}
 use Rattle.site_second.specs.Second.{secondReplyCall, called as calledOf}
 use Rattle.site_second.proofs.SecondReplies.{found}
+use Rattle.site_first.proofs.FirstReplies.{first-reply, first-unique}
 use Rattle.site_first.proofs.Traffic.{traffic}
 use Rattle.hub_calls.specs.CallList.{callList, callListCall}
 use Rattle.hub_join.specs.Join.{joined, joinCall}
-use Rattle.old.specs.Old.{listed, oldSearchCall}
-use Rattle.mowqachi.specs.Plant.{Found, FinalList, Fits, Words, body}
+use Rattle.old.specs.Old.{listed}
+use Rattle.old.proofs.OldSearch.{old-call}
+use Rattle.mowqachi.specs.Plant.{Found, FinalList, body}
 use Rattle.mowqachi.specs.Question.{Call, first, calls, second, join, Asking, stopped, going, _>>=_, call, each, Answer, ask}
-use Rattle.mowqachi.specs.Demand.{Demand2, Asked, Put, firstOf, secondOf, Enough, question, bundle, list, bundle′, Over, SmallBundles, Claim, Demand3}
+use Rattle.mowqachi.specs.Demand.{Demand2, Asked, Put, Right, question, inOrder, First, at-once, later, Owed, Over, NoneOver, SmallBundles, Claim, Demand3}
 use Rattle.mowqachi.proofs.Comes.{comes-node, found-iff}
 use Rattle.mowqachi.proofs.Cross.{cross-answers}
-use Rattle.mowqachi.proofs.OldSearch.{final-unique, old-final, old-gives}
+use Rattle.mowqachi.proofs.OldSearch.{final-unique, old-final}
 use Rattle.mowqachi.proofs.Accepts.{e, small, firsts, Owes, gathered, Gathered, called-iff, first-call, hub-call, second-call, join-call, join-lists, join-perm, first-sized, list-sized, second-sized, joined-sized, joined-words, answered, seconds}
-use Rattle.mowqachi.proofs.Host.{Sized, call-gives, call-refuses, each-gives, each-stops}
+use Rattle.mowqachi.proofs.Host.{call-gives, call-refuses, each-gives, stops-here, stops-later}
+use Rattle.mowqachi.proofs.Owed.{firstOf, secondOf, bundle, list, bundle′, owed, Agree, owed-once}
 
 -- a plant that fits one file
 pub demand-2 : Demand2
-demand-2 p whole path fits (w, l, c) n m r =
-    (listed whole path, old-gives p whole fits path c w l n m r, old-final p whole fits path c)
-
--- the lists of an image are within a limit, or one is over it
-within : {A : Type 0} (g : A → List ℕ) (limit : ℕ) (fs : List A)
-    → ((f : A) → Mem f fs → length (g f) ≤ limit) ⊎ ((f : A) × Mem f fs × (limit < length (g f)))
-within g limit [] = inl (λ f m. elim m [ ])
-within {A} g limit (f ∷ fs) = go (decLe (length (g f)) limit) (within g limit fs)
-  where
-    all : length (g f) ≤ limit → ((k : A) → Mem k fs → length (g k) ≤ limit) → (k : A) → Mem k (f ∷ fs) → length (g k) ≤ limit
-    all h a k (here e) = subst (λ z. length (g z) ≤ limit) (sym e) h
-    all h a k (there m) = a k m
-
-    go : Dec (length (g f) ≤ limit) → (((k : A) → Mem k fs → length (g k) ≤ limit) ⊎ ((k : A) × Mem k fs × (limit < length (g k))))
-        → (((k : A) → Mem k (f ∷ fs) → length (g k) ≤ limit) ⊎ ((k : A) × Mem k (f ∷ fs) × (limit < length (g k))))
-    go (no h) r = inr (f, here refl, omega arith)
-    go (yes h) (inl a) = inl (all h a)
-    go (yes h) (inr (k, m, l)) = inr (k, there m, l)
+demand-2 p whole path fits (w, l, c) n m r = (
+  listed whole path,
+  old-call n m whole path (r .0) (r .1) (fits .word) (fits .small) (fits .whole) w l c,
+  old-final p whole (fits .whole) (fits .holds) (fits .every) path c,
+)
 
 -- files written and put together are the bytes of a bundle
 bundle-bytes : {A : Type 0} (write : A → List ℕ) (fs : List A) → flatten (map (λ f. bytesOf (write f)) fs) ≡ bytesOf (flatten (map write fs))
@@ -74,7 +64,7 @@ module _ (q : Asked) where
       answers f m = cross-answers (q .plant) (q .parts) (q .cut) (q .one-root) (q .closed) (e q) (small q) f m
           (calledOf (body f) (drop 1 (callList (flatten order)))) (called-iff q order g f)
 
-  module _ (u : Put q) (few : SmallBundles q u) where
+  module _ (u : Put q) where
     -- the sites' and the hub's calls, as the host makes them
     abbrev firstOutcome : List ℕ → ℕ → ℕ → Outcome
     firstOutcome part n m = firstReplyCall n m part (bytesOf (q .path))
@@ -106,36 +96,21 @@ module _ (q : Asked) where
     part-of′ : (f : List ℕ) → Mem f (u .order′) → Mem f (q .parts)
     part-of′ = perm-same (u .once′) .0
 
-    owed : (f : List ℕ) → Mem f (u .order)
+    first-owes : (f : List ℕ) → Mem f (u .order)
         → Owes (firstReplyCall (u .room .first (bytesOf f) .out) (u .room .first (bytesOf f) .work) (bytesOf f) (bytesOf (q .path))) 4096 (firstOf q f)
-    owed f m = first-call q _ _ (u .enough .first f (part-of f m)) f (part-of f m)
+    first-owes f m = first-call q _ _ (u .enough .first f (part-of f m)) f (part-of f m)
 
     abbrev Short : Type 0
     Short = (f : List ℕ) → Mem f (q .parts) → length (firstOf q f) ≤ 4096
 
     first-gives : (f : List ℕ) → Mem f (u .order) → length (firstOf q f) ≤ 4096 → firstCall (bytesOf f) ≡ going (bytesOf (firstOf q f))
-    first-gives f m h = call-gives (first (bytesOf f)) (firstOutcome (bytesOf f)) (u .room .first (bytesOf f)) (firstOf q f) (first-sized q f (part-of f m) h) (owed f m .gives h)
+    first-gives f m h = call-gives (first (bytesOf f)) (firstOutcome (bytesOf f)) (u .room .first (bytesOf f)) (firstOf q f) (first-sized q f (part-of f m) h) (first-owes f m .gives h)
 
     first-over : (f : List ℕ) → Mem f (u .order) → 4096 < length (firstOf q f) → firstCall (bytesOf f) ≡ stopped (first (bytesOf f)) 15
-    first-over f m h = call-refuses (first (bytesOf f)) (firstOutcome (bytesOf f)) (u .room .first (bytesOf f)) 14 (owed f m .over h)
+    first-over f m h = call-refuses (first (bytesOf f)) (firstOutcome (bytesOf f)) (u .room .first (bytesOf f)) 14 (first-owes f m .over h)
 
-    -- some first reply is over its limit
-    stops-first : (f : List ℕ) → Mem f (q .parts) → 4096 < length (firstOf q f) → (c : Call) × Over q u c × (question q u ≡ stopped c 15)
-    stops-first f m h =
-        let i = perm-same (u .once) .1 f m in
-        let (c, o, r) = each-stops (Over q u) 15 firstCall bytesOf (λ f. bytesOf (firstOf q f)) (u .order) one f i
-        (first (bytesOf f)) (first-over f i h) (f, m, refl, h) in
-        (c, o, is-run ∙ ap (λ x. x >>= hub) r)
-      where
-        one : (f : List ℕ) → Mem f (u .order)
-            → (firstCall (bytesOf f) ≡ going (bytesOf (firstOf q f))) ⊎ ((c : Call) × Over q u c × (firstCall (bytesOf f) ≡ stopped c 15))
-        one f i = elim (decLe (length (firstOf q f)) 4096) [
-          | yes h ↦ inl (first-gives f i h)
-          | no h ↦ let l : 4096 < length (firstOf q f) = omega arith in inr (first (bytesOf f), (f, part-of f i, refl, l), first-over f i l)
-        ]
-
-    -- no first reply is: the hub's turn
-    module _ (short : Short) where
+    -- no first reply is over its limit: the hub's turn
+    module _ (short : Short) (small : length (bundle q u) ≤ 8192) where
       all : (f : List ℕ) → Mem f (firsts q) → length f ≤ 4096
       all f m = let (g, i, e) = Memᴰ·of-map (firstOf q) (q .parts) m in subst (λ z. length z ≤ 4096) e (short g i)
 
@@ -149,20 +124,20 @@ module _ (q : Asked) where
           ∙ ap (λ b. call calls (λ n m. callListCall n m b) (u .room .calls) >>= after) (bundle-bytes (firstOf q) (u .order))
 
       hub-owes : Owes (callListCall (u .room .calls .out) (u .room .calls .work) (bytesOf (bundle q u))) 4096 (list q u)
-      hub-owes = hub-call q all (map (firstOf q) (u .order)) firsts-once (few .first short) _ _ (u .enough .calls)
+      hub-owes = hub-call q all (map (firstOf q) (u .order)) firsts-once small _ _ (u .enough .calls)
 
       stops-hub : 4096 < length (list q u) → question q u ≡ stopped calls 15
       stops-hub h = to-hub ∙ ap (λ x. x >>= after) (call-refuses calls (λ n m. callListCall n m (bytesOf (bundle q u))) (u .room .calls) 14 (hub-owes .over h))
 
       -- nor is the call list: the sites' second turn, and joining
-      module _ (fits : length (list q u) ≤ 4096) (small : length (bundle′ q u) ≤ 8192) where
+      module _ (fits : length (list q u) ≤ 4096) (small′ : length (bundle′ q u) ≤ 8192) where
         seconds-once : Perm (map (secondOf q (list q u)) (u .order′)) (seconds q (list q u))
         seconds-once = perm-map (secondOf q (list q u)) (u .once′)
 
         second-gives : (f : List ℕ) → Mem f (u .order′) → secondCall (bytesOf (list q u)) (bytesOf f) ≡ going (bytesOf (secondOf q (list q u) f))
         second-gives f m =
             call-gives (second (bytesOf f)) (secondOutcome (bytesOf (list q u)) (bytesOf f)) (u .room .second (bytesOf f)) (secondOf q (list q u) f) (second-sized q (list q u) f (part-of′ f m))
-            (second-call q all (map (firstOf q) (u .order)) firsts-once (few .first short) fits _ _ (u .enough .second f (part-of′ f m)) f (part-of′ f m))
+            (second-call q all (map (firstOf q) (u .order)) firsts-once small fits _ _ (u .enough .second f (part-of′ f m)) f (part-of′ f m))
 
         abbrev given : Answer
         given = record { seconds = map (λ f. bytesOf (secondOf q (list q u) f)) (u .order′); final = bytesOf (joined (bundle′ q u)) }
@@ -175,8 +150,8 @@ module _ (q : Asked) where
             (each-gives (secondCall (bytesOf (list q u))) bytesOf (λ f. bytesOf (secondOf q (list q u) f)) (u .order′) second-gives)
             ∙ ap (λ x. x >>= (λ f. going (record { seconds = given .seconds; final = f })))
             (ap (λ b. call join (λ n m. joinCall n m b) (u .room .join)) (bundle-bytes (secondOf q (list q u)) (u .order′))
-            ∙ call-gives join (λ n m. joinCall n m (bytesOf (bundle′ q u))) (u .room .join) (joined (bundle′ q u)) (joined-sized q (list q u) (map (secondOf q (list q u)) (u .order′)) seconds-once small)
-            (join-call q (list q u) (map (secondOf q (list q u)) (u .order′)) seconds-once small _ _ (u .enough .join)))
+            ∙ call-gives join (λ n m. joinCall n m (bytesOf (bundle′ q u))) (u .room .join) (joined (bundle′ q u)) (joined-sized q (list q u) (map (secondOf q (list q u)) (u .order′)) seconds-once small′)
+            (join-call q (list q u) (map (secondOf q (list q u)) (u .order′)) seconds-once small′ _ _ (u .enough .join)))
 
         joined-final : FinalList (q .plant) (e q) (joined (bundle′ q u))
         joined-final =
@@ -184,72 +159,133 @@ module _ (q : Asked) where
             (xs, lists-iff (found-is (map (firstOf q) (u .order)) (gathered q all (map (firstOf q) (u .order)) firsts-once)) all′, is)
 
         final-words : words (given .final) ≡ joined (bundle′ q u)
-        final-words = words-bytes (joined (bundle′ q u)) (joined-words q (list q u) (map (secondOf q (list q u)) (u .order′)) seconds-once small)
+        final-words = words-bytes (joined (bundle′ q u)) (joined-words q (list q u) (map (secondOf q (list q u)) (u .order′)) seconds-once small′)
 
         seconds-words : words (flatten (given .seconds)) ≡ bundle′ q u
         seconds-words =
             ap words (bundle-bytes (secondOf q (list q u)) (u .order′))
             ∙ words-bytes (bundle′ q u) (answered q (list q u) (map (secondOf q (list q u)) (u .order′)) seconds-once .word)
 
-        ending : (a : Answer) × (question q u ≡ going a)
-            × FinalList (q .plant) (e q) (words (a .final))
-            × Perm (answersOf (words (flatten (a .seconds)))) (answersOf (words (a .final)))
-            × ((whole : List ℕ) → Fits (q .plant) whole → (n m : ℕ) → Enough 8192 n m
-            → oldSearchCall n m (bytesOf whole) (bytesOf (q .path)) ≡ accepted (words (a .final)))
+        ending : (a : Answer) × (question q u ≡ going a) × Right q a
         ending = (
           given,
           run-ends,
-          subst (FinalList (q .plant) (e q)) (sym final-words) joined-final,
-          subst₂ (λ s f. Perm (answersOf s) (answersOf f)) (sym seconds-words) (sym final-words)
-              (join-perm q (list q u) (map (secondOf q (list q u)) (u .order′)) seconds-once small),
-          λ whole fit n m r.
-              let (old, gives, is) = demand-2 (q .plant) whole (q .path) fit (q .path-accepted) n m r in
-              gives ∙ ap accepted (final-unique (q .plant) (e q) is joined-final ∙ sym final-words),
+          record {
+            final = subst (FinalList (q .plant) (e q)) (sym final-words) joined-final;
+            once = subst₂ (λ s f. Perm (answersOf s) (answersOf f)) (sym seconds-words) (sym final-words)
+                (join-perm q (list q u) (map (secondOf q (list q u)) (u .order′)) seconds-once small′);
+            old = λ whole fit n m r.
+                let (old, gives, is) = demand-2 (q .plant) whole (q .path) fit (q .path-accepted) n m r in
+                gives ∙ ap accepted (final-unique (q .plant) (e q) is joined-final ∙ sym final-words);
+          },
         )
 
-    -- some call owes a reply or a list over its limit, or none does
-    cases : ((c : Call) × Over q u c) ⊎ (Short × (length (list q u) ≤ 4096))
-    cases = elim (within (firstOf q) 4096 (q .parts)) [
-      | inr (f, m, h) ↦ inl (first (bytesOf f), (f, m, refl, h))
-      | inl short ↦ elim (decLe (length (list q u)) 4096) [
-        | yes h ↦ inr (short, h)
-        | no h ↦ let l : 4096 < length (list q u) = omega arith in inl (calls, l)
+    -- so the question stops at the first call that owes a reply or a list over its limit, or ends where none does
+    module _ (o : Owed q u) (few : SmallBundles q u o) where
+      same : Agree q u o (owed q u)
+      same = owed-once q u o (owed q u)
+
+      -- what a part's first reply owes, from the call's bytes
+      first-is : (f : List ℕ) → Mem f (q .parts) → o .firstOf (words (bytesOf f)) ≡ firstOf q f
+      unfolding owed
+      first-is f m = ap (o .firstOf) (words-bytes f (q .cut .part f m .0)) ∙ same .first f m
+
+      first-short : (f : List ℕ) → Mem f (q .parts) → (Over q u o (first (bytesOf f)) → ⊥) → length (firstOf q f) ≤ 4096
+      first-short f m n = elim (decLe (length (firstOf q f)) 4096) [ yes h ↦ h | no h ↦ absurd (n (rw (first-is f m) (omega arith))) ]
+
+      list-short : (Over q u o calls → ⊥) → length (list q u) ≤ 4096
+      unfolding owed
+      list-short n = elim (decLe (length (list q u)) 4096) [ yes h ↦ h | no h ↦ absurd (n (rw (same .list-is) (omega arith))) ]
+
+      first-small : Short → length (bundle q u) ≤ 8192
+      unfolding owed
+      first-small short = rw (same .bundle-is) at (few .first (λ f m. rw (same .first f m) (short f m)))
+
+      -- the sites' first calls
+      firsts-run : (fs : List (List ℕ)) (cs : List Call) (by : Call) → ((f : List ℕ) → Mem f fs → Mem f (u .order))
+          → First (Over q u o) (map (λ f. first (bytesOf f)) fs ++ cs) by
+          → (each firstCall (map bytesOf fs) ≡ stopped by 15) ⊎ (((f : List ℕ) → Mem f fs → length (firstOf q f) ≤ 4096) × First (Over q u o) cs by)
+      firsts-run [] cs by i r = inr (λ f m. elim m [ ], r)
+      firsts-run (f ∷ fs) cs by i (at-once h) =
+          let m = i f (here refl) in
+          inl (stops-here firstCall bytesOf f fs (first (bytesOf f)) 15 (first-over f m (rw (first-is f (part-of f m)) at h)))
+      firsts-run (f ∷ fs) cs by i (later n r) =
+          let m = i f (here refl) in
+          let h = first-short f (part-of f m) n in
+          elim (firsts-run fs cs by (λ g k. i g (there k)) r) [
+            | inl s ↦ inl (stops-later firstCall bytesOf f fs (bytesOf (firstOf q f)) by 15 (first-gives f m h) s)
+            | inr (a, r) ↦ inr (on-cons (λ g. length (firstOf q g) ≤ 4096) h a, r)
+          ]
+
+      -- the hub's call list and what comes behind it
+      abbrev hubOn : List Call
+      hubOn = calls ∷ (map (λ f. second (bytesOf f)) (u .order′) ++ (join ∷ []))
+
+      -- no call behind the call list owes such a one
+      none-behind : (fs : List (List ℕ)) (by : Call) → First (Over q u o) (map (λ f. second (bytesOf f)) fs ++ (join ∷ [])) by → ⊥
+      none-behind [] by (at-once h) = h
+      none-behind [] by (later n r) = elim r [ ]
+      none-behind (f ∷ fs) by (at-once h) = h
+      none-behind (f ∷ fs) by (later n r) = none-behind fs by r
+
+      hub-run : Short → (by : Call) → First (Over q u o) hubOn by → question q u ≡ stopped by 15
+      unfolding owed
+      hub-run short by (at-once h) = stops-hub short (first-small short) (rw (same .list-is) at h)
+      hub-run short by (later n r) = absurd (none-behind (u .order′) by r)
+
+      stops : (by : Call) → First (Over q u o) (inOrder q u) by → question q u ≡ stopped by 15
+      stops by r = elim (firsts-run (u .order) hubOn by (λ f m. m) r) [
+        | inl s ↦ is-run ∙ ap (λ x. x >>= hub) s
+        | inr (short, r) ↦ hub-run (λ f m. short f (perm-same (u .once) .1 f m)) by r
       ]
-    ]
 
-    none-over : Short → length (list q u) ≤ 4096 → (c : Call) → Over q u c → ⊥
-    none-over short h (first part) (f, m, i, l) = omega (arith, short f m)
-    none-over short h calls l = omega arith
-    none-over short h (second part) o = o
-    none-over short h join o = o
+      ends : NoneOver q u o → (a : Answer) × (question q u ≡ going a) × Right q a
+      unfolding owed
+      ends none = ending short (first-small short) (list-short (none calls hub-call)) (rw (same .bundle-is′) at (few .second none))
+        where
+          short : Short
+          short f m = first-short f m (none (first (bytesOf f)) (Memᴰ·append-left hubOn (Memᴰ·map (λ f. first (bytesOf f)) (perm-same (u .once) .1 f m))))
 
-    over : (c : Call) → Over q u c → (d : Call) × Over q u d × (question q u ≡ stopped d 15)
-    over (first part) (f, m, i, h) = stops-first f m h
-    over calls h = elim (within (firstOf q) 4096 (q .parts)) [ inl short ↦ (calls, h, stops-hub short h) | inr (f, m, l) ↦ stops-first f m l ]
-    over (second part) o = absurd o
-    over join o = absurd o
+          hub-call : Mem calls (inOrder q u)
+          hub-call = Memᴰ·append-right (map (λ f. first (bytesOf f)) (u .order)) (here refl)
 
-    -- a question stops in one way, and does not stop if it goes on
-    same-stop : (c d : Call) (k l : ℕ) → question q u ≡ stopped c k → question q u ≡ stopped d l → (c ≡ d) × (k ≡ l)
-    same-stop c d k l p r = (cc, cc)
+      -- it can be told which
+      decide : (c : Call) → Dec (Over q u o c)
+      decide (first part) = decLt 4096 (length (o .firstOf (words part)))
+      decide calls = decLt 4096 (length (o .list))
+      decide (second part) = no (λ h. h)
+      decide join = no (λ h. h)
 
-    no-stop : (c : Call) (k : ℕ) (a : Answer) → question q u ≡ stopped c k → question q u ≡ going a → ⊥
-    no-stop c k a p r = let z : _≡_ {A = ℕ} 0 1 = cc in omega arith
+      some-first : (cs : List Call) → ((c : Call) × First (Over q u o) cs c) ⊎ ((c : Call) → Mem c cs → Over q u o c → ⊥)
+      some-first [] = inr (λ c m. elim m [ ])
+      some-first (c ∷ cs) = elim (decide c) [
+        | yes h ↦ inl (c, at-once h)
+        | no n ↦ elim (some-first cs) [ inl (d, r) ↦ inl (d, later n r) | inr a ↦ inr (on-cons (λ c. Over q u o c → ⊥) n a) ]
+      ]
 
-    claim : Claim q u
-    claim = record {
-      stops = λ by k r. elim cases [
-        | inl (c, o) ↦
-            let (d, o′, r′) = over c o in
-            let (i, j) = same-stop by d k 15 r r′ in
-            (j, subst (Over q u) (sym i) o′)
-        | inr (short, h) ↦
-            let end = ending short h (few .second (none-over short h)) in
-            absurd (no-stop by k (end .0) r (end .1))
-      ];
-      over = over;
-      ends = λ none. elim cases [ inl (c, o) ↦ absurd (none c o) | inr (short, h) ↦ ending short h (few .second none) ];
-    }
+      -- a question stops in one way, and does not stop if it goes on
+      same-stop : (c d : Call) (k l : ℕ) → question q u ≡ stopped c k → question q u ≡ stopped d l → (c ≡ d) × (k ≡ l)
+      same-stop c d k l p r = (cc, cc)
+
+      no-stop : (c : Call) (k : ℕ) (a : Answer) → question q u ≡ stopped c k → question q u ≡ going a → ⊥
+      no-stop c k a p r = let z : _≡_ {A = ℕ} 0 1 = cc in omega arith
+
+      claim : Claim q u o
+      claim = record {
+        stops = λ by k. (
+          λ r. elim (some-first (inOrder q u)) [
+            | inl (c, s) ↦ let (i, j) = same-stop by c k 15 r (stops c s) in (subst (First (Over q u o) (inOrder q u)) (sym i) s, j)
+            | inr none ↦ let end = ends none in absurd (no-stop by k (end .0) r (end .1))
+          ],
+          λ (s, i). stops by s ∙ ap (stopped by) (sym i),
+        );
+        over = λ by m h. elim (some-first (inOrder q u)) [ inl (c, s) ↦ (c, stops c s) | inr none ↦ absurd (none by m h) ];
+        ends = ends;
+      }
 
 pub demand-3 : Demand3
-demand-3 = record { claim = claim; traffic = λ part path p. traffic part path }
+demand-3 = record {
+  claim = claim;
+  owed = owed;
+  traffic = λ part path f p a r. rw (first-unique part path f (firstReply part path) r (first-reply part path p a)) (traffic part path a);
+}

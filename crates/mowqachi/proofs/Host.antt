@@ -1,10 +1,9 @@
 -- The host's part of the question: an accepted call's file is handed on as it was written; a refusal ends the question. Assumes nothing.
-use mathlib.Core.Path.{_≡_, refl, sym, _∙_, ap, subst}
-use mathlib.Core.Logic.{_⊎_, inl, inr}
+use mathlib.Core.Path.{_≡_, refl, _∙_, ap}
 use mathlib.Core.List.{List, [], _∷_, map}
 use Prim.Native.Nat.{ℕ, suc, _-_, _*_, _^_, _<_}
 use native.Mathlib.Omega.{arith}
-use lib.ListN.{length, getD, take}
+use lib.ListN.{length, getD}
 use lib.Seq.{take-at}
 use Rattle.sets.specs.Sets.{Mem, here, there}
 use Rattle.files.specs.Word.{bytesOf}
@@ -56,18 +55,15 @@ each-gives ask of write (f ∷ fs) h =
     ap (λ x. x >>= (λ r. each ask (map of fs) >>= (λ rs. going (r ∷ rs)))) (h f (here refl))
     ∙ ap (λ x. x >>= (λ rs. going (write f ∷ rs))) (each-gives ask of write fs (λ g m. h g (there m)))
 
--- and where one is refused: the first that is refused ends it
-pub each-stops : {A : Type 0} (P : Call → Type 0) (k : ℕ) (ask : List ℕ → Asking (List ℕ)) (of write : A → List ℕ) (fs : List A)
-    → ((f : A) → Mem f fs → (ask (of f) ≡ going (write f)) ⊎ ((c : Call) × P c × (ask (of f) ≡ stopped c k)))
-    → (f : A) → Mem f fs → (c : Call) → ask (of f) ≡ stopped c k → P c → (d : Call) × P d × (each ask (map of fs) ≡ stopped d k)
-each-stops P k ask of write (g ∷ fs) h f (here e) c r p =
-    (c, p, ap (λ x. x >>= (λ r. each ask (map of fs) >>= (λ rs. going (r ∷ rs)))) (ap (λ x. ask (of x)) (sym e) ∙ r))
-each-stops {A} P k ask of write (g ∷ fs) h f (there m) c r p = go (each-stops P k ask of write fs (λ x i. h x (there i)) f m c r p) (h g (here refl))
-  where
-    rest : Asking (List ℕ) → Asking (List (List ℕ))
-    rest x = x >>= (λ r. each ask (map of fs) >>= (λ rs. going (r ∷ rs)))
+-- and where one is refused, behind others that each gave its file: it ends the question
+module _ {A : Type 0} (ask : List ℕ → Asking (List ℕ)) (of : A → List ℕ) (f : A) (fs : List A) where
+  rest : Asking (List ℕ) → Asking (List (List ℕ))
+  rest x = x >>= (λ r. each ask (map of fs) >>= (λ rs. going (r ∷ rs)))
 
-    go : ((d : Call) × P d × (each ask (map of fs) ≡ stopped d k)) → ((ask (of g) ≡ going (write g)) ⊎ ((c : Call) × P c × (ask (of g) ≡ stopped c k)))
-        → (d : Call) × P d × (rest (ask (of g)) ≡ stopped d k)
-    go (d, q, t) (inl a) = (d, q, ap rest a ∙ ap (λ x. x >>= (λ rs. going (write g ∷ rs))) t)
-    go (d, q, t) (inr (b, u, a)) = (b, u, ap rest a)
+  pub stops-here : (c : Call) (k : ℕ) → ask (of f) ≡ stopped c k → each ask (map of (f ∷ fs)) ≡ stopped c k
+  unfolding rest
+  stops-here c k e = ap rest e
+
+  pub stops-later : (r : List ℕ) (c : Call) (k : ℕ) → ask (of f) ≡ going r → each ask (map of fs) ≡ stopped c k → each ask (map of (f ∷ fs)) ≡ stopped c k
+  unfolding rest
+  stops-later r c k e s = ap rest e ∙ ap (λ x. x >>= (λ rs. going (r ∷ rs))) s

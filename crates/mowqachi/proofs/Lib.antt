@@ -1,3 +1,4 @@
+pub mod Numbers
 pub mod Comes
 pub mod OldSearch
 pub mod Cross
@@ -6,4 +7,6 @@ pub mod Host
 pub mod Accepts
 pub mod PlantOf
 pub mod Cutter
+pub mod Demand1
+pub mod Owed
 pub mod Demand

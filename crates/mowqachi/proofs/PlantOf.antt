@@ -1,20 +1,27 @@
--- The plant of an accepted whole file: it fits that file, has one root, and no link leaves it. Assumes nothing.
+-- The plant of an accepted whole file: it fits that file, has one root, and no link leaves it. And parts with different sites, no node in two
+-- and a door wherever a link crosses are a true cut of the plant that they hold together. Assumes nothing.
 use mathlib.Core.Path.{_≡_, refl, subst}
-use mathlib.Core.List.{List, List·Memᴰ·eq-of-singleton}
+use mathlib.Core.List.{List, map, List·Memᴰ·eq-of-singleton}
 use Prim.Native.Nat.{ℕ, _≤_}
-use lib.ListN.{length}
-use Rattle.sets.specs.Sets.{Mem, here}
-use Rattle.files.specs.Part.{nodes, wholeCheck}
+use lib.ListN.{length, getD}
+use Rattle.sets.specs.Sets.{Mem, here, Distinct}
+use Rattle.files.specs.Field.{siteOf}
+use Rattle.files.specs.Part.{nodes, roots, doors, wholeCheck}
+use Rattle.files.proofs.Blocks.{roots-nodes, edge-of}
 use Rattle.files.proofs.Parts.{whole-root, whole-target}
-use Rattle.mowqachi.specs.Plant.{OneRoot, Closed, Fits, Words, body}
-use Rattle.mowqachi.specs.PlantOf.{plantOf}
+use Rattle.mowqachi.specs.Plant.{OneRoot, Closed, HasEdge, Holds, AcceptedPart, TrueCut, Fits, Words, body}
+use Rattle.mowqachi.specs.PlantOf.{plantOf, plantOfParts}
+
+-- a file holds its own plant
+pub plant-holds : (f : List ℕ) → Holds (plantOf f) f
+plant-holds f = record { is-node = λ x m. m; has-link = λ x a y m l. l; is-link = λ x a y l. l; has-root = λ x m r. r; is-root = λ x r. r }
 
 pub plant-fits : (f : List ℕ) → Words f → length f ≤ 4096 → wholeCheck f ≡ 0 → Fits (plantOf f) f
 plant-fits f word small c = record {
   word = word;
   small = small;
   whole = c;
-  holds = record { is-node = λ x m. m; has-link = λ x a y m l. l; is-link = λ x a y l. l; has-root = λ x m r. r; is-root = λ x r. r };
+  holds = plant-holds f;
   every = λ x m. m;
 }
 
@@ -26,3 +33,23 @@ plant-one-root f c =
 pub plant-closed : (f : List ℕ) → wholeCheck f ≡ 0 → Closed (plantOf f)
 plant-closed f c x a y (w, m, p, q) =
     subst (λ z. Mem z (nodes (body f))) q (whole-target f c x w m)
+
+pub parts-cut : (parts : List (List ℕ)) → ((f : List ℕ) → Mem f parts → AcceptedPart f)
+    → Distinct (map (λ f. siteOf (getD f 0 0)) parts)
+    → ((x : ℕ) (f g : List ℕ) → Mem f parts → Mem g parts → Mem x (nodes (body f)) → Mem x (nodes (body g)) → f ≡ g)
+    → ((x a y : ℕ) (f g : List ℕ) → Mem f parts → Mem g parts → (f ≡ g → ⊥) → HasEdge f x a y → Mem y (nodes (body g)) → Mem y (doors (body g)))
+    → TrueCut (plantOfParts parts) parts
+parts-cut parts part sites once crossed = record {
+  part = part;
+  holds = λ f m. record {
+    is-node = λ x n. (f, m, n);
+    has-link = λ x a y n (g, k, (w, i, l, t)). subst (λ h. HasEdge h x a y) (once x g f k m (edge-of (body g) x w i .2) n) (w, i, l, t);
+    is-link = λ x a y e. (f, m, e);
+    has-root = λ x n (g, k, r). subst (λ h. Mem x (roots (body h))) (once x g f k m (roots-nodes (body g) x r) n) r;
+    is-root = λ x r. (f, m, r);
+  };
+  sites = sites;
+  every = λ x n. n;
+  once = once;
+  crossed = crossed;
+}

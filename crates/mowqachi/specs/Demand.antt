@@ -1,7 +1,8 @@
 -- The user's demands 2 and 3, and the bound on traffic.
 use Prim.Native.Nat.{ℕ, suc, _*_, _≤_, _<_}
 use mathlib.Core.Path.{_≡_}
-use mathlib.Core.List.{List, map, flatten}
+use mathlib.Core.Logic.{_↔_}
+use mathlib.Core.List.{List, [], _∷_, _++_, map, flatten}
 use lib.ListN.{length, drop, getD}
 use Rattle.sets.specs.Sets.{Mem, Perm, filter}
 use Rattle.files.specs.Word.{words, bytesOf}
@@ -12,12 +13,12 @@ use Rattle.files.specs.Path.{pathCheck}
 use Rattle.files.specs.Reply.{isReach}
 use Rattle.files.specs.Answers.{answersOf}
 use Rattle.expressions.specs.Labels.{exprOf}
-use Rattle.site_first.specs.First.{firstReply}
-use Rattle.site_second.specs.Second.{secondReply}
-use Rattle.hub_calls.specs.CallList.{callList}
+use Rattle.site_first.specs.First.{IsFirstReply}
+use Rattle.site_second.specs.Second.{IsSecondReply}
+use Rattle.hub_calls.specs.CallList.{IsCallList}
 use Rattle.old.specs.Old.{oldSearchCall}
 use Rattle.mowqachi.specs.Plant.{Plant, OneRoot, Closed, TrueCut, Fits, Words, FinalList}
-use Rattle.mowqachi.specs.Question.{Buffers, Room, Call, first, calls, second, join, Asking, stopped, going, Answer, ask}
+use Rattle.mowqachi.specs.Question.{Room, Call, first, calls, second, join, Asking, stopped, going, Answer, ask}
 
 -- n bytes are enough for a result of `limit` words, and m for the work
 abbrev pub Enough : ℕ → ℕ → ℕ → Type 0
@@ -46,14 +47,12 @@ pub record Asked : Type 1 where
   pub path : List ℕ
   pub path-accepted : AcceptedPath path
 
+-- c is the first of some calls that has a property
+pub data First (P : Call → Type 0) : List Call → Call → Type 0 where
+  at-once : {c : Call} {cs : List Call} → P c → First P (c ∷ cs) c
+  later : {c d : Call} {cs : List Call} → (P d → ⊥) → First P cs c → First P (d ∷ cs) c
+
 module _ (q : Asked) where
-  -- what the calls owe
-  abbrev pub firstOf : List ℕ → List ℕ
-  firstOf f = firstReply f (q .path)
-
-  abbrev pub secondOf : List ℕ → List ℕ → List ℕ
-  secondOf list f = secondReply f (q .path) list
-
   -- buffers that are enough for each call
   pub record EnoughRoom (room : Room) : Type 0 where
     pub first : (f : List ℕ) → Mem f (q .parts) → Enough 4096 (room .first (bytesOf f) .out) (room .first (bytesOf f) .work)
@@ -70,55 +69,70 @@ module _ (q : Asked) where
     pub room : Room
     pub enough : EnoughRoom room
 
+  -- What a question that no call refuses must end with: the joined list is demand 2's list; the second replies together hold exactly the listed
+  -- nodes, each once; and the list is equal in every word to the old search's wherever the plant fits one file
+  pub record Right (a : Answer) : Type 0 where
+    pub final : FinalList (q .plant) (exprOf (drop 1 (q .path))) (words (a .final))
+    pub once : Perm (answersOf (words (flatten (a .seconds)))) (answersOf (words (a .final)))
+    pub old : (whole : List ℕ) → Fits (q .plant) whole → (n m : ℕ) → Enough 8192 n m
+        → oldSearchCall n m (bytesOf whole) (bytesOf (q .path)) ≡ accepted (words (a .final))
+
   module _ (u : Put) where
     -- the question that is asked
     abbrev pub question : Asking Answer
     question = ask (u .room) (bytesOf (q .path)) (map bytesOf (u .order)) (map bytesOf (u .order′))
 
-    -- the first bundle, the call list that the hub owes from it, and the second bundle
-    abbrev pub bundle : List ℕ
-    bundle = flatten (map firstOf (u .order))
+    -- its calls, in the order in which they are made
+    abbrev pub inOrder : List Call
+    inOrder = map (λ f. first (bytesOf f)) (u .order) ++ (calls ∷ (map (λ f. second (bytesOf f)) (u .order′) ++ (join ∷ [])))
 
-    abbrev pub list : List ℕ
-    list = callList bundle
+    -- What the calls owe, in document 01's words: each site's first reply, however long; the call list of the bundle of these; and each site's
+    -- second reply to that list. There are such files, and no others (`owed` and `owed-once` of proofs/Owed.antt).
+    pub record Owed : Type 1 where
+      pub firstOf : List ℕ → List ℕ
+      pub list : List ℕ
+      pub secondOf : List ℕ → List ℕ
+      pub first : (f : List ℕ) → Mem f (q .parts) → IsFirstReply f (q .path) (firstOf f)
+      pub calls : IsCallList (flatten (map firstOf (u .order))) list
+      pub second : (f : List ℕ) → Mem f (q .parts) → IsSecondReply f (q .path) list (secondOf f)
 
-    abbrev pub bundle′ : List ℕ
-    bundle′ = flatten (map (secondOf list) (u .order′))
+    module _ (o : Owed) where
+      -- the first reply or call list that a call owes is over its limit
+      abbrev pub Over : Call → Type 0
+      Over (first part) = 4096 < length (o .firstOf (words part))
+      Over calls = 4096 < length (o .list)
+      Over (second part) = ⊥
+      Over join = ⊥
 
-    -- the first reply or call list that a call owes is over its limit
-    abbrev pub Over : Call → Type 0
-    Over (first part) = (f : List ℕ) × Mem f (q .parts) × (part ≡ bytesOf f) × (4096 < length (firstOf f))
-    Over calls = 4096 < length list
-    Over (second part) = ⊥
-    Over join = ⊥
+      -- no call of the question is so
+      abbrev pub NoneOver : Type 0
+      NoneOver = (by : Call) → Mem by inOrder → Over by → ⊥
 
-    -- no bundle that is made is over its limit
-    pub record SmallBundles : Type 0 where
-      pub first : ((f : List ℕ) → Mem f (q .parts) → length (firstOf f) ≤ 4096) → length bundle ≤ 8192
-      pub second : ((by : Call) → Over by → ⊥) → length bundle′ ≤ 8192
+      -- no bundle that is made is over its limit
+      pub record SmallBundles : Type 0 where
+        pub first : ((f : List ℕ) → Mem f (q .parts) → length (o .firstOf f) ≤ 4096) → length (flatten (map (o .firstOf) (u .order))) ≤ 8192
+        pub second : NoneOver → length (flatten (map (o .secondOf) (u .order′))) ≤ 8192
 
-    -- Demand 3, of the run of the whole question
-    pub record Claim : Type 0 where
-      -- a call refuses only if the first reply or call list that it owes is over its limit, and then with 15
-      pub stops : (by : Call) (k : ℕ) → question ≡ stopped by k → (k ≡ 15) × Over by
-      -- and where some call owes such a one, the question is ended by one that does
-      pub over : (by : Call) → Over by → (c : Call) × Over c × (question ≡ stopped c 15)
-      -- where none does, the joined list is demand 2's list; the second replies together hold exactly the listed nodes, each once; and the
-      -- list is equal in every word to the old search's wherever the plant fits one file
-      pub ends : ((by : Call) → Over by → ⊥) → (a : Answer) × (question ≡ going a)
-          × FinalList (q .plant) (exprOf (drop 1 (q .path))) (words (a .final))
-          × Perm (answersOf (words (flatten (a .seconds)))) (answersOf (words (a .final)))
-          × ((whole : List ℕ) → Fits (q .plant) whole → (n m : ℕ) → Enough 8192 n m
-          → oldSearchCall n m (bytesOf whole) (bytesOf (q .path)) ≡ accepted (words (a .final)))
+      -- Demand 3, of the run of the whole question
+      pub record Claim : Type 0 where
+        -- the call whose refusal ends the question is the first, in the order of the calls, that owes a first reply or call list over its limit,
+        -- and its number is 15
+        pub stops : (by : Call) (k : ℕ) → (question ≡ stopped by k) ↔ (First Over inOrder by × (k ≡ 15))
+        -- where some call owes such a one, the question is so ended
+        pub over : (by : Call) → Mem by inOrder → Over by → (c : Call) × (question ≡ stopped c 15)
+        -- where none does, it ends with the right list and replies
+        pub ends : NoneOver → (a : Answer) × (question ≡ going a) × Right a
 
 -- whatever its part and path, a site with D doors and T outside targets sends at most D × T × n × (n + 1) reach words
 abbrev pub Traffic : Type 0
 Traffic =
-    (part path : List ℕ) → partCheck part ≡ 0 → pathCheck path ≡ 0
-    → length (filter isReach (drop 1 (firstReply part path)))
+    (part path f : List ℕ) → partCheck part ≡ 0 → pathCheck path ≡ 0 → IsFirstReply part path f
+    → length (filter isReach (drop 1 f))
     ≤ length (doors (drop 1 part)) * length (outside (drop 1 part)) * labelsOf (getD path 0 0) * suc (labelsOf (getD path 0 0))
 
--- Demand 3, entire: one claim about the question, for every plant, cut, path, two orders and buffers; and the bound on traffic
+-- Demand 3, entire: one claim about the question, for every plant, cut, path, two orders and buffers, whatever files meet document 01's words
+-- of what the calls owe; that there are such files; and the bound on traffic
 pub record Demand3 : Type 1 where
-  pub claim : (q : Asked) (u : Put q) → SmallBundles q u → Claim q u
+  pub claim : (q : Asked) (u : Put q) (o : Owed q u) → SmallBundles q u o → Claim q u o
+  pub owed : (q : Asked) (u : Put q) → Owed q u
   pub traffic : Traffic

@@ -1,4 +1,5 @@
 pub mod Plant
 pub mod PlantOf
 pub mod Question
+pub mod Demand1
 pub mod Demand

@@ -3,49 +3,37 @@ use mathlib.Core.Path.{_≡_, refl, sym, _∙_, ap}
 use mathlib.Core.List.{List, [], _∷_, _++_, append-nil, append-assoc}
 use Prim.Native.Nat.{ℕ, suc, _+_, _*_, _≤_, _<_}
 use native.Mathlib.Omega.{arith}
-use lib.ListN.{length, length-append}
+use lib.ListN.{length, take, length-append}
 use lib.Seq.{take-append-le, take-all}
 use Rattle.files.specs.Word.{putWord}
 use Rattle.files.specs.Outcome.{zeros, padded}
 use Rattle.files.proofs.Buffers.{padded-none, padded-more}
-use Rattle.output.specs.Writer.{Written, Writes}
+use Rattle.output.specs.Writer.{Written, Puts, Counts, Writes}
 
 module _ (limit n : ℕ) where
-  length-more : (ws : List ℕ) (w : ℕ) → length (ws ++ w ∷ []) ≡ suc (length ws)
-  length-more ws w = simp length-append (omega arith)
-
   -- nothing yet
   pub written-none : Written limit n [] (zeros n) 0
   written-none = record { out-is = rw (take-all {A = ℕ} limit [] (omega arith)) (sym (padded-none n)); counted = omega arith }
 
-  -- a full buffer stays as it is, whatever follows
-  pub written-full : (ws vs : List ℕ) {out : List ℕ} {count : ℕ} → limit < count → Written limit n ws out count → Written limit n (ws ++ vs) out count
-  written-full ws vs h r = record {
-    out-is = r .out-is ∙ ap (padded n) (sym (take-append-le limit ws vs (omega (arith, r .counted))));
-    counted = omega (arith, r .counted, length-append ws vs);
-  }
-
   -- one more word that fits
   pub written-more : (ws : List ℕ) (w : ℕ) {out out′ : List ℕ} {count : ℕ} → count < limit → 4 * limit ≤ n → out′ ≡ putWord out count w
       → Written limit n ws out count → Written limit n (ws ++ w ∷ []) out′ (count + 1)
-  written-more ws w {out} {out′} {count} h room e r =
+  written-more ws w {count = count} h room e r =
       let c : count ≡ length ws = omega (arith, r .counted) in
+      let l : length (ws ++ w ∷ []) ≡ suc (length ws) = simp length-append (omega arith) in
       record {
         out-is =
             e ∙ rw (r .out-is, take-all limit ws (omega arith), c) (padded-more n ws w (omega arith))
-            ∙ ap (padded n) (sym (take-all limit (ws ++ w ∷ []) (omega (arith, length-more ws w))));
-        counted = omega (arith, c, length-more ws w);
+            ∙ ap (padded n) (sym (take-all limit (ws ++ w ∷ []) (omega arith)));
+        counted = omega arith;
       }
 
-  -- and one that does not
-  pub written-over : (ws : List ℕ) (w : ℕ) {out : List ℕ} {count : ℕ} → limit ≤ count → count ≤ limit
-      → Written limit n ws out count → Written limit n (ws ++ w ∷ []) out (count + 1)
-  written-over ws w h k r =
-      let c : length ws ≡ limit = omega (arith, r .counted) in
-      record {
-        out-is = r .out-is ∙ ap (padded n) (sym (take-append-le limit ws (w ∷ []) (omega (arith, c))));
-        counted = omega (arith, c, length-more ws w);
-      }
+  -- a full buffer stays as it is, whatever follows
+  pub put-full : (ws vs : List ℕ) {out : List ℕ} {count : ℕ} → limit ≤ count → Written limit n ws out count → out ≡ padded n (take limit (ws ++ vs))
+  put-full ws vs h r = r .out-is ∙ ap (padded n) (sym (take-append-le limit ws vs (omega (arith, r .counted))))
+
+  pub written-full : (ws vs : List ℕ) {out : List ℕ} {count : ℕ} → limit < count → Written limit n ws out count → Written limit n (ws ++ vs) out count
+  written-full ws vs h r = record { out-is = put-full ws vs (omega arith) r; counted = omega (arith, r .counted, length-append ws vs) }
 
   -- what is not over the limit stands there entire
   pub written-all : (ws : List ℕ) {out : List ℕ} {count : ℕ} → count ≤ limit → Written limit n ws out count → (out ≡ padded n ws) × (length ws ≤ limit) × (count ≡ length ws)
@@ -57,15 +45,18 @@ module _ (limit n : ℕ) where
   pub written-long : (ws : List ℕ) {out : List ℕ} {count : ℕ} → limit < count → Written limit n ws out count → limit < length ws
   written-long ws h r = omega (arith, r .counted)
 
-  -- words put together
-  pub written-append : (ws us vs : List ℕ) {out : List ℕ} {count : ℕ} → Written limit n ((ws ++ us) ++ vs) out count → Written limit n (ws ++ (us ++ vs)) out count
-  written-append ws us vs r = rw append-assoc at r
-
 -- the header, put in when the length is known
 pub padded-head : (n v w : ℕ) (ws : List ℕ) → putWord (padded n (v ∷ ws)) 0 w ≡ padded n (w ∷ ws)
 padded-head n v w ws = refl
 
+-- words put, and counted
+pub writes-counted : {limit n : ℕ} {a b : List ℕ} {i k r : ℕ} (vs : List ℕ) → Puts limit n a i b vs → Counts limit i k r → k ≡ length vs → Writes limit n a i b r vs
+writes-counted vs f g e ws h = record { out-is = f ws h; counted = g (length ws) (h .counted) ∙ rw (e, length-append) }
+
 -- words behind words
+
+pub puts-more : {limit n : ℕ} {a b c : List ℕ} {i j : ℕ} (us vs : List ℕ) → Writes limit n a i b j us → Puts limit n b j c vs → Puts limit n a i c (us ++ vs)
+puts-more us vs f g ws r = rw (← append-assoc) (g (ws ++ us) (f ws r))
 
 pub writes-none : (limit n : ℕ) (out : List ℕ) (count : ℕ) → Writes limit n out count out count []
 writes-none limit n out count ws r = rw append-nil r

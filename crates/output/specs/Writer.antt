@@ -1,7 +1,7 @@
 -- Words written one after another to a buffer, counted, and none past a limit.
 use mathlib.Core.Path.{_≡_}
 use mathlib.Core.List.{List, _++_}
-use Prim.Native.Nat.{ℕ, suc, _≤_, min}
+use Prim.Native.Nat.{ℕ, suc, _+_, _≤_, min}
 use lib.Dec.{leb}
 use lib.ListN.{length, take}
 use Rattle.files.specs.Refuse.{_unless_}
@@ -13,7 +13,15 @@ pub record Written (limit n : ℕ) (ws out : List ℕ) (count : ℕ) : Type 0 wh
   pub out-is : out ≡ padded n (take limit ws)
   pub counted : count ≡ min (length ws) (suc limit)
 
--- the words vs were written behind whatever was written before
+-- the words vs were put behind whatever was written before, as far as the limit
+abbrev pub Puts : ℕ → ℕ → List ℕ → ℕ → List ℕ → List ℕ → Type 0
+Puts limit n out count out′ vs = (ws : List ℕ) → Written limit n ws out count → out′ ≡ padded n (take limit (ws ++ vs))
+
+-- r is the count after k more words
+abbrev pub Counts : ℕ → ℕ → ℕ → ℕ → Type 0
+Counts limit count k r = (m : ℕ) → count ≡ min m (suc limit) → r ≡ min (m + k) (suc limit)
+
+-- the words vs were put and counted
 abbrev pub Writes : ℕ → ℕ → List ℕ → ℕ → List ℕ → ℕ → List ℕ → Type 0
 Writes limit n out count out′ r vs = (ws : List ℕ) → Written limit n ws out count → Written limit n (ws ++ vs) out′ r
 

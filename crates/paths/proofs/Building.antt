@@ -1,21 +1,21 @@
 -- What each step of the construction does is what `compute` does. Assumes nothing.
-use mathlib.Core.Path.{_≡_, refl, sym, ap, subst, _∙_, fun-ext}
-use mathlib.Core.Bool.{Bool, true, false, cond}
+use mathlib.Core.Path.{_≡_, refl, ap, subst, _∙_, fun-ext}
+use mathlib.Core.Bool.{false}
 use mathlib.Core.List.{List, [], _∷_, append-nil}
 use Prim.Native.Nat.{ℕ, zero, suc, _+_, _-_, _≤_, _<_}
 use native.Mathlib.Nat.{not-suc-le-zero}
 use native.Mathlib.Numerals.{add-one}
 use native.Mathlib.Omega.{arith}
-use lib.Dec.{eqb}
 use lib.ListN.{length, getD, set, replicate, length-set}
 use lib.Seq.{getD-set-same, getD-set-other}
 use Rattle.sets.specs.States.{hasState}
 use Rattle.sets.proofs.StateSets.{has-empty}
-use Rattle.files.specs.Path.{mostWaiting, isLabel, operatorOf}
-use Rattle.files.specs.Expr.{labelAt, exprCheck, exprAt}
+use Rattle.files.specs.Path.{mostWaiting}
+use Rattle.files.specs.Expr.{labelAt, exprAt}
 use Rattle.files.specs.declared.expr.ExprWord.{ExprWord}
 use Rattle.files.specs.declared.expr.ExprWord.the-variants as variants
 use Rattle.files.specs.declared.expr.Label.{Label}
+use Rattle.files.proofs.Exprs.{label-told, operator-told}
 use Rattle.paths.specs.declared.interval.Interval.{Interval}
 use Rattle.paths.specs.declared.letters.Letters.{Letters}
 use Rattle.paths.specs.declared.operand.Operand.{Operand}
@@ -142,29 +142,10 @@ operator-star (suc (suc (suc k))) a b c = refl
 
 module _ (w : ℕ) {e : ExprWord} (r : e ≡ exprAt w) where
   pub word-label : {l : Label} → e ≡ variants.Label l → (put-letter w ≡ item w) × (l ≡ labelAt w)
-  word-label {l} h = go (eqb (exprCheck w) 0) (isLabel w) (sym h ∙ r)
-    where
-      go : (c b : Bool) → variants.Label l ≡ cond c (cond b (variants.Label (labelAt w)) (variants.Operator (operatorOf w))) variants.Wrong
-          → (put-letter w ≡ cond b (put-letter w) (operatorItem (operatorOf w))) × (l ≡ labelAt w)
-      go true true k = (refl, cc)
-      go true false k = let z : _≡_ {A = ℕ} 0 1 = cc in absurd (omega arith)
-      go false b k = let z : _≡_ {A = ℕ} 0 1 = cc in absurd (omega arith)
+  word-label h = let t = label-told w r h in (rw (t .1), t .2)
 
   pub word-operator : {k : ℕ} → e ≡ variants.Operator k → operatorItem k ≡ item w
-  word-operator {k} h = go (eqb (exprCheck w) 0) (isLabel w) (sym h ∙ r)
-    where
-      go : (c b : Bool) → variants.Operator k ≡ cond c (cond b (variants.Label (labelAt w)) (variants.Operator (operatorOf w))) variants.Wrong
-          → operatorItem k ≡ cond b (put-letter w) (operatorItem (operatorOf w))
-      go true true m = let z : _≡_ {A = ℕ} 0 1 = cc in absurd (omega arith)
-      go true false m = let z : k ≡ operatorOf w = cc in ap operatorItem z
-      go false b m = let z : _≡_ {A = ℕ} 0 1 = cc in absurd (omega arith)
-
-  pub word-right : exprCheck w ≡ 0 → e ≡ variants.Wrong → ⊥
-  word-right q h = go (isLabel w) (sym h ∙ r ∙ rw q)
-    where
-      go : (b : Bool) → variants.Wrong ≡ cond b (variants.Label (labelAt w)) (variants.Operator (operatorOf w)) → ⊥
-      go true m = let z : _≡_ {A = ℕ} 0 1 = cc in omega arith
-      go false m = let z : _≡_ {A = ℕ} 0 1 = cc in omega arith
+  word-operator h = let t = operator-told w r h in rw (t .1, t .2)
 
 -- every label word asks the same
 pub ready-label : {b : Builder} (w : ℕ) → Ready (put-letter w) b → Ready (put-letter 0) b

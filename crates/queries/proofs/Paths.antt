@@ -1,24 +1,35 @@
--- Laws of a path's words: the operands that a word takes, and its check by the word's case.
+-- Laws of a path's words: the operands that a word takes, its check by its case, and the loop over the words.
 -- Assumes nothing.
-use mathlib.Core.Path.{_≡_, refl, sym, ap, _∙_}
+use mathlib.Core.Path.{_≡_, refl, sym, _∙_}
 use mathlib.Core.Logic.{_⊎_, inl, inr, ⊎-elim}
 use mathlib.Core.Bool.{Bool, true, false, cond, _&&_, _||_}
 use mathlib.Core.List.{List, [], _∷_}
-use Prim.Native.Nat.{ℕ, zero, suc, _+_, _-_, _/_, _≤_, _<_}
-use mir.Syntax.{w32}
+use Prim.Native.Nat.{ℕ, zero, suc, _+_, _-_, _^_, _≤_, _<_}
+use mir.Syntax.{w32, w64}
 use mir.Val.{Fits}
 use native.Mathlib.Omega.{arith}
+use native.Mathlib.Numerals.{add-one}
 use lib.Dec.{eqb, leb, ltb}
-use lib.ListN.{getD}
-use borrow.Author.Tests.{eq-eqb, ne-eqb, eqb-true, eqb-false, le-leb, lt-leb}
+use lib.ListN.{length, getD, drop}
+use borrow.Author.Tests.{ne-eqb, le-leb, lt-leb}
+use Rattle.sets.specs.Sets.{filter}
+use Rattle.sets.proofs.Cases.{eq-or-ne}
+use Rattle.files.specs.declared.cursor.Cursor.{Cursor}
+use Rattle.files.specs.declared.cursor.Step.{Step}
+use Rattle.files.specs.declared.cursor.Step.the-variants.{Word, End}
 use Rattle.files.specs.declared.expr.Label.{Label}
 use Rattle.files.specs.declared.expr.ExprWord.{ExprWord}
 use Rattle.files.specs.declared.expr.ExprWord.the-variants as variants
+use Rattle.files.specs.Word.{words}
 use Rattle.files.specs.Field.{bits, kindOf, labelsOf}
-use Rattle.files.specs.Refuse.{_unless_}
-use Rattle.files.specs.Path.{isLabel, sortOf, lowOf, highOf, operatorOf, takes, waits, mostWaiting, wordCheck}
-use Rattle.files.specs.Expr.{exprCheck, labelAt, exprAt}
+use Rattle.files.specs.Read.{readAt}
+use Rattle.files.specs.Refuse.{_then_, _unless_}
+use Rattle.files.specs.Path.{isLabel, sortOf, lowOf, highOf, takes, waits, mostWaiting, wordCheck, endCheck, scan, bodyCheck}
+use Rattle.files.specs.Expr.{exprCheck, exprAt}
 use Rattle.files.proofs.Checks.{checks, passed-first, refused-first}
+use Rattle.files.proofs.Exprs.{expr-wrong, label-told, operator-told, wrong-told}
+use Rattle.files.proofs.Scans.{Scanning, scanning-refused, scanning-more, scanning-last}
+use Rattle.readers.proofs.Counts.{Counting, counting-first, counting-one, counting-fits, counting-none, counting-last}
 
 -- the operands of an operator, for the proof of `operands`
 pub operands-are : (op : ℕ) {a r : ℕ} → a ≡ cond (eqb op 1 || eqb op 2) 2 0 → r ≡ cond (eqb op 3) 1 a → r ≡ getD (0 ∷ 2 ∷ 2 ∷ 1 ∷ []) op 0
@@ -37,7 +48,7 @@ operands-are op e f = f ∙ rw e (is op)
 pub waiting-missing : (a t : ℕ) → a < t → 9 ≡ (9 unless (leb t a && leb (suc (a - t)) mostWaiting))
 waiting-missing a t h = rw (lt-leb t a h)
 
-pub waiting-checked : (a t : ℕ) {r : ℕ} → t ≤ a → r ≡ (9 unless ltb (a - t) 16) → r ≡ (9 unless (leb t a && leb (suc (a - t)) mostWaiting))
+pub waiting-checked : (a t : ℕ) {r : ℕ} → t ≤ a → r ≡ (9 unless ltb (a - t) mostWaiting) → r ≡ (9 unless (leb t a && leb (suc (a - t)) mostWaiting))
 waiting-checked a t h e = rw (le-leb t a h) e
 
 -- a check that gives 5 or nothing
@@ -59,50 +70,64 @@ expr-five w n =
     (five-either (eqb (sortOf w) 0) (five (leb (lowOf w) (highOf w))) (five (eqb (sortOf w) 1 && eqb (bits 23 3 w) 0)))
     (five (eqb (kindOf w) 6 && eqb (bits 27 2 w) 0)))
 
--- what a word's case says of it
-told-label : (a b : Bool) (k l : Label) (o : ℕ) → variants.Label l ≡ cond a (cond b (variants.Label k) (variants.Operator o)) variants.Wrong
-    → (a ≡ true) × (b ≡ true)
-told-label true true k l o e = (refl, refl)
-told-label true false k l o e = let z : _≡_ {A = ℕ} 0 1 = cc in absurd (omega arith)
-told-label false b k l o e = let z : _≡_ {A = ℕ} 0 1 = cc in absurd (omega arith)
+-- a word by its case e, for the proofs of `takes` and `check_word`
+module _ (w : ℕ) {e : ExprWord} (h : e ≡ exprAt w) where
+  pub takes-label : {l : Label} → e ≡ variants.Label l → 0 ≡ takes w
+  takes-label a = rw (label-told w h a .1)
 
-told-operator : (a b : Bool) (k : Label) (o p : ℕ) → variants.Operator p ≡ cond a (cond b (variants.Label k) (variants.Operator o)) variants.Wrong
-    → (a ≡ true) × (b ≡ false) × (p ≡ o)
-told-operator true true k o p e = let z : _≡_ {A = ℕ} 0 1 = cc in absurd (omega arith)
-told-operator true false k o p e = (refl, refl, cc)
-told-operator false b k o p e = let z : _≡_ {A = ℕ} 0 1 = cc in absurd (omega arith)
+  pub takes-operator : {p t : ℕ} → e ≡ variants.Operator p → t ≡ getD (0 ∷ 2 ∷ 2 ∷ 1 ∷ []) p 0 → t ≡ takes w
+  takes-operator a g = let o = operator-told w h a in rw (o .1, ← (o .2)) g
 
-told-wrong : (a b : Bool) (k : Label) (o : ℕ) → variants.Wrong ≡ cond a (cond b (variants.Label k) (variants.Operator o)) variants.Wrong → a ≡ false
-told-wrong true true k o e = let z : _≡_ {A = ℕ} 0 1 = cc in absurd (omega arith)
-told-wrong true false k o e = let z : _≡_ {A = ℕ} 0 1 = cc in absurd (omega arith)
-told-wrong false b k o e = refl
+  pub word-wrong : (waiting : ℕ) → e ≡ variants.Wrong → 5 ≡ wordCheck waiting w
+  word-wrong waiting a = refused-first (exprCheck w) _ (λ z. omega arith) (sym (expr-five w (wrong-told w h a)))
 
--- for the proof of `check_word`
-module _ (waiting w : ℕ) {e : ExprWord} (h : e ≡ exprAt w) where
-  pub word-label : {r : ℕ} {l : Label} → e ≡ variants.Label l → r ≡ (9 unless (leb 0 waiting && leb (suc (waiting - 0)) mostWaiting)) → r ≡ wordCheck waiting w
-  word-label {l = l} a f =
-      let t = told-label (eqb (exprCheck w) 0) (isLabel w) (labelAt w) l (operatorOf w) (sym a ∙ h) in
-      passed-first (exprCheck w) _ (eqb-true (exprCheck w) 0 (t .0)) refl (rw (t .1) f)
+  pub word-right : (waiting : ℕ) {n t : ℕ} → (e ≡ variants.Wrong → ⊥) → (exprCheck w ≡ 0 → t ≡ takes w)
+      → n ≡ (9 unless (leb t waiting && leb (suc (waiting - t)) mostWaiting)) → n ≡ wordCheck waiting w
+  word-right waiting a g f = passed-first (exprCheck w) _ right refl (rw (← g right) f)
+    where
+      right : exprCheck w ≡ 0
+      right = ⊎-elim (λ z. z) (λ z. absurd (a (h ∙ sym (expr-wrong w refl z)))) (eq-or-ne (exprCheck w) 0)
 
-  pub word-operator : {r o p : ℕ} → e ≡ variants.Operator p → o ≡ getD (0 ∷ 2 ∷ 2 ∷ 1 ∷ []) p 0
-      → r ≡ (9 unless (leb o waiting && leb (suc (waiting - o)) mostWaiting)) → r ≡ wordCheck waiting w
-  word-operator {p = p} a g f =
-      let t = told-operator (eqb (exprCheck w) 0) (isLabel w) (labelAt w) (operatorOf w) p (sym a ∙ h) in
-      passed-first (exprCheck w) _ (eqb-true (exprCheck w) 0 (t .0)) refl (rw (t .1, ← (t .2), ← g) f)
+-- for the proof of `check_body`: at the words from k on, `waiting` operands wait, and `count` labels were read
+pub record Checking (s : List ℕ) (waiting count k : ℕ) : Type 0 where
+  pub scanning : Scanning wordCheck waits endCheck s (scan 0 (drop 1 (words s))) waiting k
+  pub counting : Counting isLabel s (length (filter isLabel (drop 1 (words s)))) count k
 
-  pub word-wrong : e ≡ variants.Wrong → 5 ≡ wordCheck waiting w
-  word-wrong a =
-      let t = told-wrong (eqb (exprCheck w) 0) (isLabel w) (labelAt w) (operatorOf w) (sym a ∙ h) in
-      let n = eqb-false (exprCheck w) 0 t in
-      refused-first (exprCheck w) _ (λ z. omega arith) (sym (expr-five w n))
+pub checking-first : (s : List ℕ) → Checking s 0 0 1
+checking-first s = record { scanning = record { same = refl }; counting = counting-first isLabel s 1 }
 
--- an accepted word finds its operands, and there is room for what it leaves
-module _ (waiting w : ℕ) {t : ℕ} (h : wordCheck waiting w ≡ 0) (e : t ≡ takes w) where
-  room : (takes w ≤ waiting) × (suc (waiting - takes w) ≤ 16)
-  room = (simp checks at h) .1
+module _ {s : List ℕ} {waiting count k : ℕ} {r : Step} (f : Checking s waiting count k) (q : r ≡ readAt s k) where
+  -- a word is read, e is its case, and n its check
+  module _ {w n : ℕ} {c : Cursor} {e : ExprWord} (a : r ≡ Word w c) (x : e ≡ exprAt w) (g : (w : ℕ) → e ≡ exprAt w → n ≡ wordCheck waiting w) where
+    pub checking-refused : (n ≡ 0 → ⊥) → n ≡ bodyCheck (getD (words s) 0 0) (drop 1 (words s))
+    checking-refused z = refused-first _ _ z (scanning-refused (f .scanning) q a (g w x) z)
 
-  pub waits-some : t ≤ waiting
-  waits-some = rw e (room .0)
+    module _ (z : n ≡ 0) where
+      -- it finds its operands, and there is room for what it leaves
+      right : (exprCheck w ≡ 0) × ((takes w ≤ waiting) × (suc (waiting - takes w) ≤ mostWaiting))
+      right = simp checks at (sym (g w x) ∙ z)
 
-  pub waits-fits : Fits w32 (waiting - t + 1)
-  waits-fits = rw e (let r = room .1 in omega arith)
+      module _ {t : ℕ} (y : (w : ℕ) → e ≡ exprAt w → exprCheck w ≡ 0 → t ≡ takes w) where
+        pub waits-some : t ≤ waiting
+        waits-some = rw (y w x (right .0)) (right .1 .0)
+
+        pub waits-fits : Fits w32 (waiting - t + 1)
+        waits-fits = rw (y w x (right .0)) (let l = right .1 .1 in omega arith)
+
+        scanned : Scanning wordCheck waits endCheck s (scan 0 (drop 1 (words s))) (waiting - t + 1) (c .at)
+        scanned = scanning-more (f .scanning) q a (g w x) z (rw (y w x (right .0), add-one))
+
+        module _ {b : Bool} (l : (w : ℕ) → e ≡ exprAt w → exprCheck w ≡ 0 → b ≡ isLabel w) where
+          pub checking-label : b ≡ true → Checking s (waiting - t + 1) (count + 1) (c .at)
+          checking-label h = record { scanning = scanned; counting = counting-one (f .counting) q a (l w x (right .0)) h }
+
+          pub checking-fits : b ≡ true → length s < 2 ^ 64 → Fits w64 (count + 1)
+          checking-fits h = counting-fits (f .counting) q a (l w x (right .0)) h
+
+          pub checking-other : b ≡ false → Checking s (waiting - t + 1) count (c .at)
+          checking-other h = record { scanning = scanned; counting = counting-none (f .counting) q a (l w x (right .0)) h }
+
+  -- the last was read, h is the header, and m and n are what is left to check
+  pub checking-last : {h l m n o : ℕ} → r ≡ End → h ≡ getD (words s) 0 0 → l ≡ labelsOf h → m ≡ endCheck waiting → n ≡ (9 unless eqb count l) → o ≡ (m then n)
+      → o ≡ bodyCheck (getD (words s) 0 0) (drop 1 (words s))
+  checking-last a d e i j u = u ∙ rw (scanning-last (f .scanning) q a i, j, counting-last (f .counting) q a, e, d)

@@ -2,8 +2,6 @@
 use files::cursor::Cursor;
 use files::cursor::Step;
 use files::expr::ExprWord;
-use files::expr::is_label;
-use files::expr::operator;
 use files::expr::read_expr;
 use files::field::labels;
 use files::refuse::check_file;
@@ -14,13 +12,13 @@ use files::word::word_at;
 ghost use mathlib.Core.Path.{_≡_};
 ghost use mathlib.Core.Bool.{_&&_};
 ghost use mathlib.Core.List.{[], _∷_};
-ghost use Prim.Native.Nat.{suc, _-_};
+ghost use Prim.Native.Nat.{ℕ, suc, _-_};
 ghost use lib.Dec.{leb};
-ghost use lib.ListN.{length, getD, drop};
-ghost use Rattle.sets.specs.Sets.{filter};
+ghost use lib.ListN.{getD, drop};
 ghost use Rattle.files.specs.Word.{words};
 ghost use Rattle.files.specs.Refuse.{_then_, _unless_, sizeCheck};
-ghost use Rattle.files.specs.Path.{isLabel, mostWaiting, takes as takesOf, waits as waitsAfter, wordCheck, scan, bodyCheck, pathCheck};
+ghost use Rattle.files.specs.Path.{isLabel, mostWaiting, takes as takesOf, wordCheck, bodyCheck, pathCheck};
+ghost use Rattle.files.specs.Expr.{exprCheck, exprAt};
 
 // The most operands that wait at any word.
 const MOST_WAITING: u32 = 16;
@@ -33,10 +31,24 @@ fn operands(op: u32) -> u32
 }
 
 // The operands that a word takes.
-fn takes(w: u32) -> u32
-    ensures { λ r. ⌜ r ≡ takesOf w ⌝ }
+fn takes(e: ExprWord) -> u32
+    ensures { λ r. ⌜ ((w : ℕ) → e ≡ exprAt w → exprCheck w ≡ 0 → r ≡ takesOf w) ⌝ }
 {
-    choose(is_label(w), 0, operands(operator(w)))
+    match e {
+        ExprWord::Label(_) => 0,
+        ExprWord::Operator(op) => operands(op),
+        ExprWord::Wrong => 0,
+    }
+}
+
+fn is_label(e: ExprWord) -> bool
+    ensures { λ r. ⌜ ((w : ℕ) → e ≡ exprAt w → exprCheck w ≡ 0 → r ≡ isLabel w) ⌝ }
+{
+    match e {
+        ExprWord::Label(_) => true,
+        ExprWord::Operator(_) => false,
+        ExprWord::Wrong => false,
+    }
 }
 
 // 9: an operand is missing, or too many wait after a word that takes `taken`.
@@ -49,74 +61,43 @@ fn check_waiting(waiting: u32, taken: u32) -> u32
     refuse(9, waiting - taken < MOST_WAITING)
 }
 
-fn check_word(waiting: u32, w: u32) -> u32
-    ensures { λ r. ⌜ r ≡ wordCheck waiting w ⌝ }
+// 5: no expression word; then 9.
+fn check_word(waiting: u32, e: ExprWord) -> u32
+    ensures { λ r. ⌜ ((w : ℕ) → e ≡ exprAt w → r ≡ wordCheck waiting w) ⌝ }
 {
-    match read_expr(w) {
-        ExprWord::Label(_) => check_waiting(waiting, 0),
-        ExprWord::Operator(op) => check_waiting(waiting, operands(op)),
-        ExprWord::Wrong => 5,
+    if let ExprWord::Wrong = e {
+        return 5;
     }
+    check_waiting(waiting, takes(e))
 }
 
-// The operands that wait after a word.
-fn waits(waiting: u32, w: u32) -> u32
-    requires { ⌜ wordCheck waiting w ≡ 0 ⌝ }
-    ensures { λ r. ⌜ r ≡ waitsAfter waiting w ⌝ }
+// The words after the header; at their end one operand waits, and the labels were as many as the header says.
+fn check_body(bytes: &[u8]) -> u32
+    ensures { λ r. ⌜ r ≡ bodyCheck (getD (words (now (bytes .entry))) 0 0) (drop 1 (words (now (bytes .entry)))) ⌝ }
 {
-    waiting - takes(w) + 1
-}
-
-// The words after the header.
-fn scan_words(bytes: &[u8]) -> u32
-    ensures { λ r. ⌜ r ≡ scan 0 (drop 1 (words (now (bytes .entry)))) ⌝ }
-{
+    let n = labels(word_at(bytes, 0)) as usize;
     let mut waiting = 0;
-    let mut cur = Cursor { at: 1 };
-    loop {
-        match cur.read(bytes) {
-            Step::Word(w, next) => {
-                let n = check_word(waiting, w);
-                if n != 0 {
-                    return n;
-                }
-                waiting = waits(waiting, w);
-                cur = next;
-            }
-            Step::End => {
-                return refuse(9, waiting == 1);
-            }
-        }
-    }
-}
-
-// The label words after the header.
-fn count_labels(bytes: &[u8]) -> usize
-    ensures { λ r. ⌜ r ≡ length (filter isLabel (drop 1 (words (now (bytes .entry))))) ⌝ }
-{
     let mut count = 0;
     let mut cur = Cursor { at: 1 };
     loop {
         match cur.read(bytes) {
             Step::Word(w, next) => {
+                let e = read_expr(w);
+                let number = check_word(waiting, e);
+                if number != 0 {
+                    return number;
+                }
+                waiting = waiting - takes(e) + 1;
                 cur = next;
-                if is_label(w) {
+                if is_label(e) {
                     count += 1;
                 }
             }
             Step::End => {
-                return count;
+                return first(refuse(9, waiting == 1), refuse(9, count == n));
             }
         }
     }
-}
-
-// The words after the header, and how many of them are labels.
-fn check_body(bytes: &[u8]) -> u32
-    ensures { λ r. ⌜ r ≡ bodyCheck (getD (words (now (bytes .entry))) 0 0) (drop 1 (words (now (bytes .entry)))) ⌝ }
-{
-    let n = labels(word_at(bytes, 0)) as usize;
-    first(scan_words(bytes), refuse(9, count_labels(bytes) == n))
 }
 
 // The number of the refusal of a path, 0 where it is one.

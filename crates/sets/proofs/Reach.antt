@@ -37,6 +37,10 @@ reach-is-least xs l = record {
   least = λ Q s n x m. reach-least Q s (λ x y r h k. n x y h k) x (l .sound x m);
 }
 
+-- and there is one least set
+pub least-unique : {Seed : ℕ → Type 0} {Step : ℕ → ℕ → Type 0} {P Q : ℕ → Type 0} → Least Seed Step P → Least Seed Step Q → (x : ℕ) → P x ↔ Q x
+least-unique {P} {Q} p q x = (p .least Q (q .holds) (q .closed) x, q .least P (p .holds) (p .closed) x)
+
 -- `closure` computes it
 
 module _ (step : ℕ → List ℕ) (seeds : List ℕ) where

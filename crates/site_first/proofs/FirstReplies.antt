@@ -1,30 +1,37 @@
 -- A site's first reply, of an accepted part and path: it is an accepted file, with the part's doors and root, and its rows are what is
 -- reported of the doors. Assumes nothing.
 use mathlib.Core.Path.{_≡_, refl, sym, _∙_, ap}
-use mathlib.Core.List.{List, map, flatten, Memᴰ·map, Memᴰ·of-map}
+use mathlib.Core.Logic.{Iff·rfl}
+use mathlib.Core.List.{List, _∷_, map, map-map, flatten, Memᴰ·map, Memᴰ·of-map}
 use Prim.Native.Nat.{ℕ, _*_, _^_, _≤_, _<_}
 use native.Mathlib.Omega.{arith}
 use native.Mathlib.Decide.{decLe}
 use lib.Dec.{T}
-use lib.ListN.{length, getD, drop}
-use Rattle.sets.specs.Sets.{Mem, filter}
+use lib.ListN.{length, getD, drop, length-map}
+use Rattle.sets.specs.Sets.{Mem, filter, member}
+use Rattle.sets.proofs.Tests.{same-test}
+use Rattle.sets.proofs.Sets.{member-iff, lists-unique}
+use Rattle.sets.proofs.Filter.{map-agree, map-filter-iff}
 use Rattle.sets.proofs.Lengths.{ascending-distinct}
-use Rattle.files.specs.Field.{siteOf, labelsOf, nodeOf, pair, pairOf, file}
+use Rattle.sets.proofs.Distinct.{distinct-map}
+use Rattle.files.specs.Field.{siteOf, labelsOf, nodeOf, rootOf, pair, pairOf, file, doorWord}
 use Rattle.files.specs.Word.{words, bytesOf}
 use Rattle.files.specs.Outcome.{outcome}
-use Rattle.files.specs.Part.{start, isDoor, partCheck, doors as partDoors, roots as partRoots}
+use Rattle.files.specs.Part.{isDoor, partCheck, doors as partDoors, roots as partRoots}
 use Rattle.files.specs.Path.{pathCheck}
 use Rattle.files.specs.Reply.{isReach, replyCheck, doors, roots, rows}
 use Rattle.files.proofs.Checks.{then-zero, room-checked}
 use Rattle.files.proofs.Words.{words-bytes, size-checked}
 use Rattle.files.proofs.Fields.{labels-below, site-below}
 use Rattle.files.proofs.Blocks.{doors-nodes, node-small}
-use Rattle.files.proofs.Parts.{part-read, part-some, doors-ascending, roots-of-doors}
+use Rattle.files.proofs.Parts.{part-some, doors-ascending, one-root, roots-of-doors}
 use Rattle.files.proofs.Files.{Made, file-made}
 use Rattle.expressions.specs.Expr.{Expr, count}
 use Rattle.expressions.specs.Labels.{exprOf}
 use Rattle.expressions.proofs.Paths.{path-count, path-small, path-some}
-use Rattle.site_first.specs.First.{IsFirstReply, reported, doorWords, firstReply, firstReplyCall}
+use Rattle.walks.specs.Product.{positions}
+use Rattle.walks.proofs.Product.{states-iff, states-ascending}
+use Rattle.site_first.specs.First.{IsFirstReply, rowWords, doorRows, reported, doorWords, firstReply, firstReplyCall}
 use Rattle.site_first.proofs.Reported.{Outbound, reported-is, reported-good, reported-outbound, reported-none}
 use Rattle.site_first.proofs.Written.{Good, block, doors-read, written-words, written-reach, doors-written, roots-written, rows-written, rows-above}
 
@@ -57,7 +64,8 @@ module _ (part path : List ℕ) (p : partCheck part ≡ 0) (a : pathCheck path �
 
   -- the check accepts it, for the path's n
   first-checked : (h : ℕ) → labelsOf h ≡ n → replyCheck h (drop 1 (firstReply part path)) ≡ 0
-  first-checked h l = rw (l, first-is) (doors-read n few (reported ws e) good ws start (part-read part p .words) 0 0 0 tt (omega arith))
+  first-checked h l = rw (l, first-is) (doors-read n few (reported ws e) good ds (doors-ascending part p)
+      (rw (roots-of-doors part p, ← length-map _ nodeOf) (one-root part p)))
 
   -- so it is an accepted file, if it is not too long
   pub first-made : length (firstReply part path) ≤ 4096 → Made 7 (siteOf (getD part 0 0)) n replyCheck (firstReply part path)
@@ -89,19 +97,48 @@ module _ (part path : List ℕ) (p : partCheck part ≡ 0) (a : pathCheck path �
       let d = doors-nodes ws (nodeOf (k .0)) (Memᴰ·map nodeOf (k .2)) in
       reported-outbound ws e small (nodeOf (k .0)) (k .1) (omega (arith, few, k .3)) d (pairOf v) (k .4)
 
-  -- what is written, if it is not over its limit, is document 01's first reply
-  pub first-reply : length (firstReply part path) ≤ 4096 → IsFirstReply part path (firstReply part path)
-  first-reply h =
-      let m = first-made h in
-      record {
-        header = m .is-file .head;
-        site = m .site-is;
-        labels = m .labels-is;
-        read = m .is-file .checked;
-        door-words = first-doors;
-        root-words = first-roots;
-        rows = λ x q d l. rw (first-rows x q d (omega (arith, few))) (reported-is ws e small x q (node-small ws x (doors-nodes ws x d)) (omega (arith, few)));
-      }
+  -- a door is marked as root where its node is one of the roots
+  root-mark : (w : ℕ) → Mem w ds → rootOf w ≡ member (nodeOf w) (partRoots ws)
+  root-mark w m = same-test
+      (λ t. member-iff (nodeOf w) (partRoots ws) .1 (rw (← roots-of-doors part p) (map-filter-iff nodeOf rootOf (nodeOf w) ds .1 (w, m, t, refl))))
+      (λ t. let (v, i, r, k) = map-filter-iff nodeOf rootOf (nodeOf w) ds .0 (rw (← roots-of-doors part p) at (member-iff (nodeOf w) (partRoots ws) .0 t)) in
+      rw (distinct-map nodeOf (ascending-distinct (partDoors ws) (doors-ascending part p)) i m k) at r)
+
+  -- what is written is document 01's first reply
+  pub first-reply : IsFirstReply part path (firstReply part path)
+  first-reply = record {
+    doors = partDoors ws;
+    states = 0 ∷ positions n;
+    pairs = reported ws e;
+    each-door = record { ascending = doors-ascending part p; sound = λ x m. m; complete = λ x m. m };
+    each-state = record { ascending = states-ascending n; sound = λ q m. states-iff n q .0 m; complete = λ q h. states-iff n q .1 h };
+    each-row = λ x q d m. reported-is ws e small x q (node-small ws x (doors-nodes ws x d)) (omega (arith, few, states-iff n q .0 m));
+    is = first-is ∙ ap (λ bs. file 7 (siteOf (getD part 0 0)) n (flatten bs))
+        (map-agree (block (reported ws e) n) (λ w. written (nodeOf w)) ds (λ w m. rw (root-mark w m)) ∙ sym (map-map written nodeOf ds));
+  }
+    where
+      written : ℕ → List ℕ
+      written x = doorRows ws (reported ws e x) (0 ∷ positions n) x
+
+-- and there is no other
+pub first-unique : (part path f g : List ℕ) → IsFirstReply part path f → IsFirstReply part path g → f ≡ g
+first-unique part path f g a b = a .is ∙ ap (λ bs. file 7 (siteOf (getD part 0 0)) (labelsOf (getD path 0 0)) (flatten bs)) blocks ∙ sym (b .is)
+  where
+    doors : a .doors ≡ b .doors
+    doors = lists-unique (a .each-door) (b .each-door) (λ x. Iff·rfl)
+
+    states : a .states ≡ b .states
+    states = lists-unique (a .each-state) (b .each-state) (λ q. Iff·rfl)
+
+    pairs : (x q : ℕ) → Mem x (a .doors) → Mem q (a .states) → a .pairs x q ≡ b .pairs x q
+    pairs x q m k = lists-unique (a .each-row x q m k) (b .each-row x q (rw doors at m) (rw states at k)) (λ c. Iff·rfl)
+
+    rows : (x : ℕ) → Mem x (a .doors) → doorRows (drop 1 part) (a .pairs x) (a .states) x ≡ doorRows (drop 1 part) (b .pairs x) (b .states) x
+    rows x m = ap (λ rs. doorWord x (member x (partRoots (drop 1 part))) ∷ flatten rs)
+        (map-agree _ _ (a .states) (λ q k. ap (rowWords q) (pairs x q m k)) ∙ ap (map (λ q. rowWords q (b .pairs x q))) states)
+
+    blocks : map (λ x. doorRows (drop 1 part) (a .pairs x) (a .states) x) (a .doors) ≡ map (λ x. doorRows (drop 1 part) (b .pairs x) (b .states) x) (b .doors)
+    blocks = map-agree _ _ (a .doors) rows ∙ ap (map (λ x. doorRows (drop 1 part) (b .pairs x) (b .states) x)) doors
 
 -- The call
 

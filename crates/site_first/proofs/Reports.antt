@@ -6,20 +6,20 @@ use mathlib.Core.List.{List, [], _∷_, _++_, map, flatten, append-nil, append-a
 use Prim.Native.Nat.{ℕ, zero, suc, _+_, _%_, _≤_, _<_}
 use native.Mathlib.Omega.{arith}
 use native.Mathlib.Numerals.{add-one}
-use lib.ListN.{length, getD, drop}
+use lib.ListN.{length, getD, drop, length-map}
 use Rattle.sets.specs.Sets.{Mem, here, there, Ascending, member}
 use Rattle.sets.specs.Reach.{Reach, seed, next}
 use Rattle.sets.specs.States.{hasState, statesOf, members}
 use Rattle.sets.proofs.Members.{members-in, in-members}
 use Rattle.sets.proofs.Reach.{reach-trans}
-use Rattle.sets.proofs.Sets.{lists-unique, member-iff}
+use Rattle.sets.proofs.Sets.{map-ascending, append-ascending, lists-unique, member-iff}
 use Rattle.sets.proofs.Tests.{either, passed, is-true}
 use Rattle.sets.proofs.Cases.{eq-or-ne, and-left, clash}
 use Rattle.files.specs.Field.{nodeOf, doorOf, rootOf, doorWord, rowWord, reachWord, pair, pairNode, pairState}
-use Rattle.files.specs.Part.{isNode, isDoor, nodes, outside}
+use Rattle.files.specs.Part.{isNode, isDoor, nodes}
 use Rattle.files.proofs.Fields.{node-below}
 use Rattle.expressions.specs.Expr.{Expr, count}
-use Rattle.slots.specs.Slots.{nodeAt, number, placeOf, reachedOf, isReached, Laid, Kept, Roomy}
+use Rattle.slots.specs.Slots.{nodeAt, number, placeOf, reachedOf, isReached, Laid}
 use Rattle.walks.specs.Product.{positions, stepIn}
 use Rattle.walks.specs.Search.{Begun, Blank, Follow, Sought, Seeded, Searched, Fresh}
 use Rattle.walks.specs.Prepare.{Tables}
@@ -29,10 +29,11 @@ use Rattle.walks.proofs.Preparing.{tables-kept}
 use Rattle.walks.proofs.Finding.{outside-at, outside-found}
 use Rattle.listing.specs.Rows.{pairsAt, pairsUpTo}
 use Rattle.listing.proofs.Answering.{number-below}
-use Rattle.output.specs.Writer.{Writes}
+use Rattle.listing.proofs.Rowing.{pairs-few}
+use Rattle.output.specs.Writer.{Puts, Counts, Writes}
 use Rattle.output.specs.Pairs.{pairsWith}
 use Rattle.output.proofs.Ranges.{members-ascending}
-use Rattle.output.proofs.Writing.{written-full, writes-none, writes-more}
+use Rattle.output.proofs.Writing.{written-full, writes-counted, writes-none, writes-more}
 use Rattle.site_first.specs.First.{reported, rowWords, doorWords}
 use Rattle.site_first.specs.Reporting.{Idle, Ready, Again, rowsBelow, doorHere, doorsBelow}
 use Rattle.site_first.proofs.Reported.{reported-lists}
@@ -48,18 +49,7 @@ row-some q (c ∷ cs) h = refl
 
 -- pairs of rising nodes with rising states rise
 pairs-rise : (x s : ℕ) → Ascending (pairsWith x s)
-pairs-rise x s = go (statesOf s) (members-ascending (hasState s) 0 16)
-  where
-    go : (qs : List ℕ) → Ascending qs → Ascending (map (pair x) qs)
-    go [] a = tt
-    go (q ∷ qs) a = (λ c m. let (p, k, e) = Memᴰ·of-map (pair x) qs m in omega (arith, a .0 p k, e), go qs (a .1))
-
-append-rise : (xs ys : List ℕ) → Ascending xs → Ascending ys → ((x y : ℕ) → Mem x xs → Mem y ys → x < y) → Ascending (xs ++ ys)
-append-rise [] ys a b h = b
-append-rise (x ∷ xs) ys a b h = (
-  λ y m. elim (List·Memᴰ·append-cases xs m) [ inl k ↦ a .0 y k | inr k ↦ h x y (here refl) k ],
-  append-rise xs ys (a .1) b (λ u v m k. h u v (there m) k),
-)
+pairs-rise x s = map-ascending (pair x) (statesOf s) (λ p q m k l. omega arith) (members-ascending (hasState s) 0 16)
 
 -- what a pair of a place is
 at-place : (ws w : List ℕ) (k c : ℕ) → Mem c (pairsAt ws w k) ↔ ((pairNode c ≡ number ws (placeOf w k)) × (isReached w (placeOf w k) (pairState c) ≡ true))
@@ -93,7 +83,7 @@ up-to ws w (suc t) c = (
 
 up-to-rises : (ws w : List ℕ) (t : ℕ) → ((k l : ℕ) → k < l → l < t → number ws (placeOf w k) < number ws (placeOf w l)) → Ascending (pairsUpTo ws w t)
 up-to-rises ws w zero h = tt
-up-to-rises ws w (suc t) h = append-rise (pairsUpTo ws w t) (pairsAt ws w t)
+up-to-rises ws w (suc t) h = append-ascending (pairsUpTo ws w t) (pairsAt ws w t)
     (up-to-rises ws w t (λ k l a b. h k l a (omega arith))) (pairs-rise (number ws (placeOf w t)) (reachedOf w (placeOf w t)))
     (λ x y m n.
     let (k, l, i) = up-to ws w t x .0 m in
@@ -166,12 +156,13 @@ module _ (ws : List ℕ) (t i q : ℕ) {w₁ w₂ w₃ follow : List ℕ} {top :
       complete = λ c r. read-off c .1 r;
     }) (reported-lists (drop 1 ws) e (f .small) (number ws i) q (omega (arith, number-below ws i))) from-door
 
-  -- a row is written
+  -- a row is written, and counted by its k pairs
   pub row-added : {n : ℕ} {out out′ : List ℕ} {c r k : ℕ} → ((us : List ℕ) → k ≡ length (pairsUpTo us w₃ t)) → (k ≡ 0 → ⊥)
-      → Writes 4096 n out c out′ r (rowWord q ∷ map reachWord (pairsUpTo ws w₃ t))
+      → Puts 4096 n out c out′ (rowWord q ∷ map reachWord (pairsUpTo ws w₃ t)) → Counts 4096 c (k + 1) r
       → (e : Expr) → Follow e follow → Tables ws e t w₁ → Writes 4096 n out c out′ r (rowWords q (reported (drop 1 ws) e (number ws i) q))
-  row-added l z h e f tab = adds-same (rowWord q ∷ map reachWord (pairsUpTo ws w₃ t)) (rowWords q (reported (drop 1 ws) e (number ws i) q))
-      (row-some q (pairsUpTo ws w₃ t) (λ o. z (l ws ∙ o)) ∙ ap (rowWords q) (row-reported e f tab)) h
+  row-added l z h g e f tab = adds-same (rowWord q ∷ map reachWord (pairsUpTo ws w₃ t)) (rowWords q (reported (drop 1 ws) e (number ws i) q))
+      (row-some q (pairsUpTo ws w₃ t) (λ o. z (l ws ∙ o)) ∙ ap (rowWords q) (row-reported e f tab))
+      (writes-counted (rowWord q ∷ map reachWord (pairsUpTo ws w₃ t)) h g (simp length-map (omega (arith, l ws))))
 
   -- or there is none
   module _ {k : ℕ} (l : (us : List ℕ) → k ≡ length (pairsUpTo us w₃ t)) (z : k ≡ 0) where
@@ -206,6 +197,10 @@ module _ (ws : List ℕ) (t i q : ℕ) {w₁ w₂ w₃ follow : List ℕ} {top :
 -- what a row needs of the tables
 pub row-room : {ws : List ℕ} {t : ℕ} {w : List ℕ} → Laid ws t w → (t ≤ 4096) × ((k : ℕ) → k < t → placeOf w k < 4096) × (32768 ≤ length w)
 row-room laid = (omega (arith, laid .roomy .places), λ k l. omega (arith, laid .listed k l .below, laid .roomy .few), laid .roomy .long)
+
+-- a row has at most 16 pairs for each outside target
+pub row-few : {ws : List ℕ} {t k : ℕ} {w : List ℕ} → Laid ws t w → ((us : List ℕ) → k ≡ length (pairsUpTo us w t)) → k ≤ 65536
+row-few {t = t} {w = w} laid l = omega (arith, l [], pairs-few [] w t, row-room laid .0)
 
 -- the tables are ready again
 pub again : {ws : List ℕ} {t i q top : ℕ} {w₁ w₂ w₃ w₄ follow : List ℕ} → Seeded ws t w₁ w₂ i q top → Searched ws t follow w₂ w₃ → Fresh ws t w₃ w₄ → Again ws t follow w₁ w₄

@@ -3,23 +3,22 @@
 use mathlib.Core.Path.{_≡_, refl, sym, _∙_, ap, ap₂, subst}
 use mathlib.Core.Logic.{_⊎_, inl, inr}
 use mathlib.Core.Bool.{Bool, true, false, cond, not, _&&_, _||_}
-use mathlib.Core.List.{List, [], _∷_, _++_, map, flatten, append-assoc, append-nil, Memᴰ·map, Memᴰ·of-map}
+use mathlib.Core.List.{List, [], _∷_, _++_, map, flatten, append-assoc, append-nil, map-id, Memᴰ·map, Memᴰ·of-map}
 use Prim.Native.Nat.{ℕ, suc, _^_, _≤_, _<_}
 use native.Mathlib.Omega.{arith}
 use lib.Dec.{T}
+use lib.ListN.{length}
 use borrow.Author.Tests.{eq-eqb, ne-eqb}
 use Rattle.sets.specs.Sets.{Mem, here, there, Ascending, Distinct, filter}
 use Rattle.sets.proofs.Sets.{flatten-map-iff}
 use Rattle.sets.proofs.Filter.{filter-append, filter-none, filter-all}
 use Rattle.files.specs.Field.{kindOf, nodeOf, rootOf, doorRootOf, stateOf, pair, pairNode, pairState, pairOf, doorWord, rowWord, reachWord}
-use Rattle.files.specs.declared.part.Seen.{Seen as PartSeen}
-use Rattle.files.specs.Part as part
 use Rattle.files.specs.declared.reply.Seen.{Seen}
-use Rattle.files.specs.Reply.{isDoorWord, isRow, isReach, reachCheck, scan, doors, roots, front, row, rows}
-use Rattle.files.proofs.Checks.{checks, then-iff}
+use Rattle.files.specs.Reply.{start, isDoorWord, isRow, isReach, scan, doors, roots, front, row, rows}
+use Rattle.files.proofs.Checks.{checks}
 use Rattle.files.proofs.Fields.{Door, door, Row, Holder, holder, node-below, pair-node, pair-state}
 use Rattle.files.proofs.Fields as field
-use Rattle.files.proofs.Parts.{door-or-other}
+use Rattle.files.proofs.Ordered.{Rising, rising-all}
 use Rattle.files.proofs.Replies.{door-scan, row-scan, reach-scan}
 use Rattle.files.proofs.Rows.{Stops, rows-flatten}
 use Rattle.walks.specs.Product.{positions}
@@ -30,9 +29,6 @@ use Rattle.site_first.specs.First.{rowWords}
 pub record Good (n : ℕ) (cs : List ℕ) : Type 0 where
   pub ascends : Ascending cs
   pub each : (c : ℕ) → Mem c cs → (c < 2 ^ 20) × (pairState c ≤ n)
-
-good-tail : {n c : ℕ} {cs : List ℕ} → Good n (c ∷ cs) → Good n cs
-good-tail g = record { ascends = g .ascends .1; each = λ c m. g .each c (there m) }
 
 -- the words of the rows of some states, with f q in the row of q; and a door's words, with r x q reported of the node x in the state q
 abbrev pub rowsOf : (ℕ → List ℕ) → List ℕ → List ℕ
@@ -56,48 +52,43 @@ module _ (n : ℕ) (small : n < 16) where
     abbrev seen : ℕ → ℕ → Seen
     seen last state = record { last = last; low = low; state = state; rooted = rooted }
 
-    reach-checked : (last state c w : ℕ) → Holder 10 c w → pairState c ≤ n → T (isRow last || isReach last) → last < w
-        → reachCheck n (seen last state) w ≡ 0
-    reach-checked last state c w h s t l = simp checks ((h .zeros, t), (omega (arith, h .state-is), l))
+    -- words that are accepted where a row of a state from `least` on may come, and behind a reach word where a pair from `least` on may
+    abbrev FromRow : ℕ → List ℕ → Type 0
+    FromRow least ws = (last state : ℕ) → T (not (isRow last)) → state ≤ least → scan n (seen last state) ws ≡ 0
 
-    -- the reach words that follow one
-    more-read : (rest : List ℕ) (state d : ℕ) (cs : List ℕ) → Good n (d ∷ cs)
-        → ((last : ℕ) → T (not (isRow last)) → scan n (seen last state) rest ≡ 0)
-        → scan n (seen (reachWord d) state) (map reachWord cs ++ rest) ≡ 0
-    more-read rest state d [] g k = k (reachWord d) (rw (reach d (g .each d (here refl) .0) .kind-is) tt)
-    more-read rest state d (c ∷ cs) g k =
-        let b = g .each c (there (here refl)) in
+    abbrev FromReach : ℕ → ℕ → List ℕ → Type 0
+    FromReach state least ws = (last : ℕ) → kindOf last ≡ 10 → last < reachWord least → scan n (seen last state) ws ≡ 0
+
+    -- a reach word behind a row word or another
+    reach-read : (rest : List ℕ) (last state c : ℕ) → (c < 2 ^ 20) × (pairState c ≤ n) → T (isRow last || isReach last) → last < reachWord c
+        → FromReach state (suc c) rest → scan n (seen last state) (reachWord c ∷ rest) ≡ 0
+    reach-read rest last state c b t l k =
         let h = reach c (b .0) in
-        reach-scan n (seen (reachWord d) state) (reachWord c) (map reachWord cs ++ rest) (h .kind-is)
-        (reach-checked (reachWord d) state c (reachWord c) h (b .1) (rw (reach d (g .each d (here refl) .0) .kind-is) tt) (omega (arith, g .ascends .0 c (here refl))))
-        (more-read rest state c cs (good-tail g) k)
+        reach-scan n (seen last state) (reachWord c) rest (h .kind-is) (simp checks ((h .zeros, t), (omega (arith, h .state-is), l)))
+        (k (reachWord c) (h .kind-is) (omega arith))
+
+    more-read : (rest : List ℕ) (state : ℕ) → ((last : ℕ) → T (not (isRow last)) → scan n (seen last state) rest ≡ 0)
+        → (least : ℕ) (cs : List ℕ) → Rising least cs → ((c : ℕ) → Mem c cs → (c < 2 ^ 20) × (pairState c ≤ n)) → FromReach state least (map reachWord cs ++ rest)
+    more-read rest state k least cs a = rising-all (λ c. c) (λ least cs. FromReach state least (map reachWord cs ++ rest)) (λ c. (c < 2 ^ 20) × (pairState c ≤ n))
+        (λ least last e l. k last (rw e tt)) (λ least c cs h b i last e l. reach-read (map reachWord cs ++ rest) last state c b (rw e tt) (omega arith) i)
+        least cs (rw map-id a)
 
     -- a row: its words, or none if it holds nothing
-    row-read : (rest : List ℕ) (last state q : ℕ) (cs : List ℕ) → T (not (isRow last)) → 0 < low → q ≤ n → state ≤ q → Good n cs
-        → ((last′ state′ : ℕ) → T (not (isRow last′)) → state′ ≤ suc q → scan n (seen last′ state′) rest ≡ 0)
-        → scan n (seen last state) (rowWords q cs ++ rest) ≡ 0
-    row-read rest last state q [] t l h s g k = k last state t (omega arith)
-    row-read rest last state q (c ∷ cs) t l h s g k =
+    row-read : (rest : List ℕ) (q : ℕ) (cs : List ℕ) → 0 < low → q ≤ n → Good n cs → FromRow (suc q) rest → FromRow q (rowWords q cs ++ rest)
+    row-read rest q [] l h g k last state t s = k last state t (omega arith)
+    row-read rest q (c ∷ cs) l h g k last state t s =
         let r = field.row q (omega arith) in
-        let b = g .each c (here refl) in
         let state′ = suc (stateOf (rowWord q)) in
         row-scan n (seen last state) (rowWord q) (map reachWord (c ∷ cs) ++ rest) (r .kind-is)
         (simp checks (((r .zeros, l), t), (omega (arith, r .state-is), omega (arith, r .state-is))))
-        (reach-scan n (seen (rowWord q) state′) (reachWord c) (map reachWord cs ++ rest) (reach c (b .0) .kind-is)
-        (reach-checked (rowWord q) state′ c (reachWord c) (reach c (b .0)) (b .1) (rw (r .kind-is) tt) (omega arith))
-        (more-read rest state′ c cs g (λ last′ t′. k last′ state′ t′ (omega (arith, r .state-is)))))
+        (reach-read (map reachWord cs ++ rest) (rowWord q) state′ c (g .each c (here refl)) (rw (r .kind-is) tt) (omega arith)
+        (more-read rest state′ (λ last′ t′. k last′ state′ t′ (omega (arith, r .state-is))) (suc c) cs (g .ascends) (λ d m. g .each d (there m))))
 
-    rows-read : (rest : List ℕ) (f : ℕ → List ℕ) (qs : List ℕ) → Ascending qs → Rows f qs
-        → (last state : ℕ) → T (not (isRow last)) → 0 < low → ((q : ℕ) → Mem q qs → state ≤ q)
-        → ((last′ state′ : ℕ) → T (not (isRow last′)) → scan n (seen last′ state′) rest ≡ 0)
-        → scan n (seen last state) (rowsOf f qs ++ rest) ≡ 0
+    rows-read : (rest : List ℕ) (f : ℕ → List ℕ) → 0 < low → ((least : ℕ) → FromRow least rest) → (qs : List ℕ) → Ascending qs → Rows f qs → FromRow 0 (rowsOf f qs ++ rest)
     unfolding flatten
-    rows-read rest f [] a g last state t l s k = k last state t
-    rows-read rest f (q ∷ qs) a g last state t l s k =
-        let h = g q (here refl) in
-        rw (append-assoc (rowWords q (f q)) (rowsOf f qs) rest)
-        (row-read (rowsOf f qs ++ rest) last state q (f q) t l (h .0) (s q (here refl)) (h .1)
-        (λ last′ state′ t′ s′. rows-read rest f qs (a .1) (λ p m. g p (there m)) last′ state′ t′ l (λ p m. omega (arith, a .0 p m)) k))
+    rows-read rest f l k qs a = rising-all (λ q. q) (λ least qs. FromRow least (rowsOf f qs ++ rest)) (λ q. (q ≤ n) × Good n (f q)) k
+        (λ least q qs h g i last state t s. rw (append-assoc (rowWords q (f q)) (rowsOf f qs) rest)
+        (row-read (rowsOf f qs ++ rest) q (f q) l (g .0) (g .1) i last state t (omega arith))) 0 qs (λ q m. omega arith, rw map-id a)
 
   -- The words of rows
 
@@ -183,26 +174,31 @@ module _ (n : ℕ) (small : n < 16) where
     made : (w : ℕ) → Door (nodeOf w) (rootOf w) (doorWord (nodeOf w) (rootOf w))
     made w = door (nodeOf w) (rootOf w) (node-below w)
 
-    -- the check accepts them, beside the reader of the part that has the doors: both know the same root, and the part's reader wants
-    -- nodes that are no lower
-    pub doors-read : (vs : List ℕ) (st : PartSeen) → part.scan st vs ≡ 0 → (last low state : ℕ) → T (not (isRow last)) → low ≤ st .low
-        → scan n (seen low (st .rooted) last state) (flatten (map (block r n) (filter part.isDoor vs))) ≡ 0
+    -- one door, where at most one root may still come
+    roots-left : (root rooted : Bool) (w : ℕ) (ds : List ℕ) → length (cond root (w ∷ ds) ds) ≤ cond rooted 0 1
+        → T (not root || not rooted) × (length ds ≤ cond (rooted || root) 0 1)
+    roots-left true true w ds h = absurd (omega arith)
+    roots-left true false w ds h = (tt, omega arith)
+    roots-left false true w ds h = (tt, h)
+    roots-left false false w ds h = (tt, h)
+
+    -- the check accepts them, if they ascend and at most one is a root
+    pub doors-read : (ds : List ℕ) → Ascending (map nodeOf ds) → length (filter rootOf ds) ≤ 1 → scan n start (flatten (map (block r n) ds)) ≡ 0
     unfolding flatten
-    doors-read [] st e last low state t l = simp checks t
-    doors-read (v ∷ vs) st e last low state t l =
-        let c = then-iff (part.wordCheck st v) (part.scan (part.next st v) vs) .0 e in
+    doors-read ds a h = rising-all nodeOf
+        (λ least ds. (last low state : ℕ) (rooted : Bool) → T (not (isRow last)) → low ≤ least → length (filter rootOf ds) ≤ cond rooted 0 1
+        → scan n (seen low rooted last state) (flatten (map (block r n) ds)) ≡ 0) (λ w. Unit {0}) (λ least last low state rooted t l h. simp checks t)
+        (λ least v ds g q i last low state rooted t l h.
         let w = doorWord (nodeOf v) (rootOf v) in
         let f = made v in
-        let rest = flatten (map (block r n) (filter part.isDoor vs)) in
-        elim (door-or-other st v (c .0)) [
-          | inl d ↦ rw (d .is) (door-scan n (seen low (st .rooted) last state) w (rowsOf (r (nodeOf v)) states ++ rest) (f .kind-is)
-              (simp checks ((f .zeros, t), (omega (arith, f .node-is, d .above), rw (f .root-is) (d .one-root))))
-              (rows-read (suc (nodeOf w)) (st .rooted || doorRootOf w) rest (r (nodeOf v)) states (states-ascending n) (good-rows v)
-              w 0 (rw (f .kind-is) tt) (omega arith) (λ q m. omega arith)
-              (λ last′ state′ t′. rw (f .root-is, ← d .rooted-is)
-              (doors-read vs (part.next st v) (c .1) last′ (suc (nodeOf w)) state′ t′ (omega (arith, f .node-is, d .low-is))))))
-          | inr o ↦ rw (o .is, ← o .rooted-is) (doors-read vs (part.next st v) (c .1) last low state t (omega (arith, o .above)))
-        ]
+        let rest = flatten (map (block r n) ds) in
+        let o = roots-left (rootOf v) rooted v (filter rootOf ds) h in
+        door-scan n (seen low rooted last state) w (rowsOf (r (nodeOf v)) states ++ rest) (f .kind-is)
+        (simp checks ((f .zeros, t), (omega (arith, f .node-is), rw (f .root-is) (o .0))))
+        (rows-read (suc (nodeOf w)) (rooted || doorRootOf w) rest (r (nodeOf v)) (omega arith)
+        (λ least last′ state′ t′ s. i last′ (suc (nodeOf w)) state′ (rooted || doorRootOf w) t′ (omega (arith, f .node-is)) (rw (f .root-is) (o .1)))
+        states (states-ascending n) (good-rows v) w 0 (rw (f .kind-is) tt) (omega arith)))
+        0 ds (λ y m. omega arith, a) (λ w m. tt) 0 0 0 false tt (omega arith) h
 
     -- every word is one of 32 bits
     pub written-words : (ds : List ℕ) (v : ℕ) → Mem v (flatten (map (block r n) ds)) → v < 2 ^ 32

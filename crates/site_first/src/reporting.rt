@@ -20,13 +20,14 @@ use files::part::is_node;
 use files::word::word_at;
 use listing::rows::row_length;
 use listing::rows::write_row;
+use output::writer::advance;
 use output::writer::push;
 use walks::search::reset;
 use walks::search::run;
 use walks::search::seed;
 
-// The row of state q at the door at position i. Where nothing outside was reached the marks stay: what they stand for leads nowhere, and no
-// later search has to enter it again.
+// The row of state q at the door at position i; the reply grows by its pairs and its row word. Where nothing outside was reached the marks
+// stay: what they stand for leads nowhere, and no later search has to enter it again.
 fn report_row(
     part: &[u8],
     follow: [u16; 16],
@@ -45,12 +46,13 @@ fn report_row(
 {
     let top = seed(part, work, outside, i, q, 0);
     run(part, follow, work, outside, top);
-    if row_length(work, outside) == 0 {
+    let pairs = row_length(work, outside);
+    if pairs == 0 {
         return start;
     }
-    let count = write_row(part, work, outside, q, out, 4096, start);
+    write_row(part, work, outside, q, out, 4096, start);
     reset(part, work, outside);
-    count
+    advance(4096, start, pairs + 1)
 }
 
 // The rows of all states at the door at position i.

@@ -4,10 +4,10 @@ use mathlib.Core.Path.{_≡_, refl, sym, _∙_, ap, subst}
 use mathlib.Core.Logic.{⊎-elim}
 use mathlib.Core.Bool.{Bool, true, false, not, _&&_}
 use mathlib.Core.List.{List, [], _∷_, _++_, map}
-use Prim.Native.Nat.{ℕ, zero, suc, _+_, _*_, _/_, _%_, _^_, _≤_, _<_}
+use Prim.Native.Nat.{ℕ, zero, suc, _+_, _*_, _%_, _^_, _≤_, _<_}
 use native.Mathlib.Omega.{arith}
 use borrow.Author.Tests.{eq-eqb, eqb-true, leb-true, leb-false}
-use lib.Dec.{T, eqb, leb}
+use lib.Dec.{eqb, leb}
 use lib.ListN.{length, getD, drop, length-map, length-drop}
 use Rattle.sets.specs.Sets.{Mem, here, there, Ascending, member, any}
 use Rattle.sets.proofs.Cases.{and-left, and-right, and-intro, clash, lt-or-le, eq-or-ne, not-elim}
@@ -15,14 +15,14 @@ use Rattle.sets.proofs.Tests.{either, passed, is-true}
 use Rattle.sets.proofs.Sets.{member-iff}
 use Rattle.sets.proofs.Filter.{any-iff, all-iff, map-iff, map-filter-iff, not-member-iff}
 use Rattle.files.specs.Word.{words, putWord}
-use Rattle.files.specs.Field.{kindOf, bits, nodeOf, doorOf, siteOf, labelsOf, pair, pairOf, pairNode, pairState, answerWord, file, wordOf}
+use Rattle.files.specs.Field.{nodeOf, doorOf, siteOf, labelsOf, pair, pairOf, pairNode, pairState, answerWord, file, wordOf}
 use Rattle.files.specs.Refuse.{_then_, _unless_, headerCheck, roomCheck, sizeCheck}
 use Rattle.files.specs.Outcome.{zeros, padded}
 use Rattle.files.specs.Part.{isNode, isDoor, nodes, doors, partCheck}
 use Rattle.files.specs.Path.{pathCheck}
 use Rattle.files.specs.Calls.{callCheck, callsCheck}
 use Rattle.files.proofs.Words.{words-length}
-use Rattle.files.proofs.Fields.{pair-eta, site-below, labels-below}
+use Rattle.files.proofs.Fields.{holder-made, pair-eta}
 use Rattle.files.proofs.Checks.{checks, then-iff, then-assoc, unless-iff, refused-first, passed-first}
 use Rattle.files.proofs.Ordered.{ordered-iff}
 use Rattle.files.proofs.Parts.{part-some}
@@ -79,30 +79,6 @@ mem-call (h ∷ cs) c m =
     let (k, b, q) = mem-position w cs i in
     (suc k, omega arith, omega arith, ap pairOf q ∙ e)
 
-call-word : (w : ℕ) → w < 2 ^ 32 → kindOf w ≡ 12 → bits 27 20 w ≡ 0 → w ≡ wordOf 12 (pairOf w)
-call-word w b k z = let h : w / 2 ^ 20 ≡ 3072 = high (w / 2 ^ 20) (sym (halves w) ∙ k₁) z in omega (arith, h)
-  where
-    halves : (w : ℕ) → w / 2 ^ 28 ≡ w / 2 ^ 20 / 256
-    halves w = omega arith
-
-    small : (w : ℕ) → w < 2 ^ 32 → w / 2 ^ 28 < 16
-    small w b = omega arith
-
-    twelve : (q : ℕ) → q < 16 → q % 16 ≡ 12 → q ≡ 12
-    twelve q b e = omega arith
-
-    k₁ : w / 2 ^ 28 ≡ 12
-    k₁ = twelve (w / 2 ^ 28) (small w b) k
-
-    high : (q : ℕ) → q / 256 ≡ 12 → q % 256 ≡ 0 → q ≡ 3072
-    high q e f = omega arith
-
-words-rise : (v w : ℕ) → v < w → v ≡ wordOf 12 (pairOf v) → w ≡ wordOf 12 (pairOf w) → pairNode (pairOf v) ≤ pairNode (pairOf w)
-words-rise v w h e f = let l : pairOf v < pairOf w = omega arith in nodes (pairOf v) (pairOf w) l
-  where
-    nodes : (c d : ℕ) → c < d → pairNode c ≤ pairNode d
-    nodes c d l = omega arith
-
 -- the nodes of accepted calls do not fall
 calls-rise : (cs : List ℕ) → callsCheck cs ≡ 0 → (k l : ℕ) → 1 ≤ k → k < l → l < length cs → getD cs l 0 < 2 ^ 32
     → pairNode (callAt cs k) ≤ pairNode (callAt cs l)
@@ -116,7 +92,7 @@ calls-rise (w ∷ ws) c (suc k) (suc l) a h b f =
     let i = simp checks at (each (getD ws k 0) (position-mem ws k (omega arith))) in
     let j = simp checks at (each (getD ws l 0) (position-mem ws l (omega arith))) in
     let r = rise-at ws k l (asc .1) (omega arith) (omega arith) in
-    words-rise (getD ws k 0) (getD ws l 0) r (call-word (getD ws k 0) (omega arith) (i .0 .0) (i .0 .1)) (call-word (getD ws l 0) f (j .0 .0) (j .0 .1))
+    omega (arith, holder-made 12 (getD ws k 0) (omega arith) (i .0 .0) (i .0 .1), holder-made 12 (getD ws l 0) f (j .0 .0) (j .0 .1))
 
 -- ---- nodes by position
 

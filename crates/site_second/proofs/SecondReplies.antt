@@ -9,7 +9,7 @@ use lib.Dec.{T}
 use lib.ListN.{length, getD, drop, length-map, length-drop}
 use Rattle.sets.specs.Sets.{Mem, Ascending, Lists, member, _⊆_}
 use Rattle.sets.specs.Reach.{Reach, seed}
-use Rattle.sets.proofs.Sets.{filter-iff, member-iff, lists-iff}
+use Rattle.sets.proofs.Sets.{filter-iff, member-iff, lists-iff, made-unique}
 use Rattle.sets.proofs.Filter.{all-iff}
 use Rattle.files.specs.Field.{siteOf, labelsOf, pair, pairOf, pairNode, pairState, file, answerWord}
 use Rattle.files.specs.Word.{bytesOf}
@@ -115,6 +115,10 @@ module _ (part path calls : List ℕ) (p : partCheck part ≡ 0) where
       from : (x : ℕ) → Hit x → (q : ℕ) × Reach (stepIn (drop 1 part) e) seeds (pair x q) × T (accepts e q)
       from x (c, q, m, n, w, t) =
           (q, walk-reach (drop 1 part) e small seeds (omega arith) w (rw (pair-eta c) (seed (called-iff (drop 1 part) (drop 1 calls) c .1 (m, n)))), t)
+
+-- and there is no other
+pub second-unique : (part path calls : List ℕ) {f g : List ℕ} → IsSecondReply part path calls f → IsSecondReply part path calls g → f ≡ g
+second-unique part path calls = made-unique (λ xs. file 13 (siteOf (getD part 0 0)) (labelsOf (getD path 0 0)) (map answerWord xs))
 
 -- The call
 

@@ -1,15 +1,14 @@
 -- The demands are not empty. Every accepted whole file, cut list and path, as bytes, gives demand 3's givens: the plant that the file holds, and
 -- the parts that the cutter makes of it. Document 01's own W, P and cut are one, and their question is run. Assumes nothing.
-use mathlib.Core.Path.{_≡_, refl, _∙_}
+use mathlib.Core.Path.{_≡_, refl}
 use mathlib.Core.Bool.{not}
 use mathlib.Core.List.{List, [], _∷_, map, flatten}
 use Prim.Native.Nat.{ℕ, _^_, _≤_}
 use native.Mathlib.Omega.{arith}
 use lib.Dec.{T, ltb, ltb→lt, lit≤}
 use lib.ListN.{length}
-use Rattle.sets.specs.Sets.{Mem, any, setOf}
+use Rattle.sets.specs.Sets.{any, setOf}
 use Rattle.sets.specs.Reach.{closure}
-use Rattle.sets.proofs.Sets.{setOf-lists}
 use Rattle.sets.proofs.Filter.{all-iff}
 use Rattle.sets.proofs.Perm.{perm-refl}
 use Rattle.files.specs.Word.{words, bytesOf}
@@ -27,7 +26,7 @@ use Rattle.hub_calls.specs.CallList.{called, callList, callListCall}
 use Rattle.hub_join.specs.Join.{joined, joinCall}
 use Rattle.cutter.specs.Cut.{cut, cutCall}
 use Rattle.cutter.proofs.Parts.{cut-call}
-use Rattle.table.specs.Table.{whole, path, part0, part1, first0, first1, calls, second0, second1, final, b}
+use Rattle.table.specs.Table.{whole, path, part0, part1, calls, second0, second1, final, b}
 use Rattle.files.specs.Cuts.{cutCheck}
 use Rattle.mowqachi.specs.Plant.{Words, body}
 use Rattle.mowqachi.specs.PlantOf.{plantOf, partsOf}
@@ -35,6 +34,7 @@ use Rattle.mowqachi.specs.Question.{Buffers, Room, going, ask}
 use Rattle.mowqachi.specs.Demand.{Asked, Put, SmallBundles, Claim, Enough, question}
 use Rattle.mowqachi.proofs.PlantOf.{plant-one-root, plant-closed}
 use Rattle.mowqachi.proofs.Cutter.{true-cut, some-part, few-parts}
+use Rattle.mowqachi.proofs.Owed.{owed}
 use Rattle.mowqachi.proofs.Demand.{demand-3}
 
 -- by words
@@ -131,9 +131,9 @@ unfolding ask flatten closure stepIn reached answers reported doorWords firstRep
 example-run = refl
 
 -- so demand 3 says something of it
-pub example-small : SmallBundles example examplePut
-unfolding flatten closure stepIn reached answers reported doorWords firstReply secondReply called callList cut
+pub example-small : SmallBundles example examplePut (owed example examplePut)
+unfolding owed flatten closure stepIn reached answers reported doorWords firstReply secondReply called callList cut
 example-small = record { first = λ h. lit≤ tt; second = λ h. lit≤ tt }
 
-pub example-claim : Claim example examplePut
-example-claim = demand-3 .claim example examplePut example-small
+pub example-claim : Claim example examplePut (owed example examplePut)
+example-claim = demand-3 .claim example examplePut (owed example examplePut) example-small

@@ -1,6 +1,6 @@
 -- Points of document 01 that its own table leaves unpinned, by computation: for each a file on either side of the line. Assumes nothing.
 use mathlib.Core.Path.{_≡_, refl}
-use mathlib.Core.Bool.{Bool, true, false}
+use mathlib.Core.Bool.{true, false}
 use mathlib.Core.List.{List, [], _∷_, _++_, map, flatten}
 use Prim.Native.Nat.{ℕ, zero, suc, _+_}
 use lib.ListN.{length, replicate}
@@ -14,8 +14,7 @@ use Rattle.hub_calls.specs.CallList.{called, callList, callListCall}
 use Rattle.hub_join.specs.Join.{joined, joinCall}
 use Rattle.old.specs.Old.{listed, oldSearchCall}
 use Rattle.cutter.specs.Cut.{cut, cutCall}
-use Rattle.mowqachi.specs.Question.{Room, going, ask}
-use Rattle.table.specs.Table.{whole, path, part0, part1, first0, first1, calls, second0, second1, final, b}
+use Rattle.table.specs.Table.{whole, path, part0, calls, b}
 
 -- which labels a label word holds: both ends, and one past each
 groups : (map (holds 0x51000000) (0 ∷ 4095 ∷ 4096 ∷ []) ≡ true ∷ true ∷ false ∷ [])
@@ -40,10 +39,10 @@ labels n = replicate n 0x50005005
 empties : ℕ → List ℕ
 empties n = replicate n 0x60000000
 
-ors : ℕ → List ℕ
+unfoldable pub ors : ℕ → List ℕ
 ors n = replicate n 0x60000002
 
-stars : ℕ → List ℕ
+unfoldable pub stars : ℕ → List ℕ
 stars n = replicate n 0x60000003
 
 paths :
@@ -202,17 +201,63 @@ unfolding flatten cut cutCall marked
 cuts = (refl, refl, refl, refl, refl, refl, refl, refl)
 
 -- Row 15: two doors, each linked to the same targets, and a star of an or of 15 full ranges; 9 targets are over the limit, 8 are not
-edgesTo : ℕ → List ℕ
+unfoldable pub edgesTo : ℕ → List ℕ
 edgesTo zero = []
 edgesTo (suc n) = edgesTo n ++ (0x30000002 + n) ∷ []
 
-doorsTo : ℕ → List ℕ
+unfoldable pub doorsTo : ℕ → List ℕ
 doorsTo n = 0x20010000 ∷ edgesTo n ++ 0x20010001 ∷ edgesTo n
 
-fullRanges : List ℕ
+unfoldable pub fullRanges : List ℕ
 fullRanges = 0x40f0001f ∷ replicate 15 0x50fff000 ++ ors 14 ++ stars 1
 
-dear : (length (firstReply (0x10000015 ∷ doorsTo 9) fullRanges) ≡ 4355)
+pub dear : (length (firstReply (0x10000015 ∷ doorsTo 9) fullRanges) ≡ 4355)
     × (length (firstReply (0x10000013 ∷ doorsTo 8) fullRanges) ≡ 3875)
 unfolding flatten closure stepIn reached reported doorWords firstReply edgesTo doorsTo fullRanges ors stars
 dear = (refl, refl)
+
+-- Of two inputs the first one's number stands: part or whole, cut list, path, call list; and a call list against the path before that against the
+-- part. Each wrong input by itself, then behind another.
+orders :
+    -- part before path: its words' number, and not the path's 2
+    (firstReplyCall 16384 32768 (b part0) [] ≡ refused 2)
+    × (firstReplyCall 16384 32768 (b (0x10000002 ∷ 0x20020001 ∷ [])) [] ≡ refused 7)
+    × (secondReplyCall 16384 32768 (b (0x10000002 ∷ 0x20020001 ∷ [])) [] [] ≡ refused 7)
+    -- whole before path
+    × (oldSearchCall 32768 32768 (b whole) [] ≡ refused 2)
+    × (oldSearchCall 32768 32768 (b (0x10000003 ∷ 0x20030001 ∷ 0x30050002 ∷ [])) [] ≡ refused 8)
+    -- path before call list
+    × (secondReplyCall 16384 32768 (b part0) (b path) [] ≡ refused 2)
+    × (secondReplyCall 16384 32768 (b part0) (b (0x40000001 ∷ [])) [] ≡ refused 9)
+    -- whole before cut list and asked site, which both give 11
+    × (cutCall 16384 32768 (b whole) (16 ∷ []) 16 ≡ refused 11)
+    × (cutCall 16384 32768 (b (0x10000003 ∷ 0x20030001 ∷ 0x30050002 ∷ [])) (16 ∷ []) 16 ≡ refused 8)
+    -- 14 of a called node of the part that is no door, and 12 before it
+    × (secondReplyCall 16384 32768 (b (0x10000002 ∷ 0x20000003 ∷ [])) (b path) (b (0xb0300002 ∷ 0xc0000032 ∷ [])) ≡ refused 14)
+    × (secondReplyCall 16384 32768 (b (0x10000002 ∷ 0x20000003 ∷ [])) (b path) (b (0xb0200002 ∷ 0xc0000032 ∷ [])) ≡ refused 12)
+unfolding flatten closure stepIn reached answers reported doorWords firstReply firstReplyCall secondReply secondReplyCall listed oldSearchCall cut cutCall
+orders = (refl, refl, refl, refl, refl, refl, refl, refl, refl, refl, refl)
+
+-- Limits of size: a header and n zeros, at the limit read as far as the first zero, which is 5, and one word past it not read, which is 2
+zeroed : ℕ → ℕ → List ℕ
+zeroed h n = b (h ∷ replicate n 0)
+
+limits :
+    -- parts, wholes and call lists of 4,096 words
+    (firstReplyCall 16384 32768 (zeroed 0x10001000 4095) (b path) ≡ refused 5)
+    × (firstReplyCall 16384 32768 (zeroed 0x10001001 4096) (b path) ≡ refused 2)
+    × (secondReplyCall 16384 32768 (zeroed 0x10001000 4095) (b path) (b calls) ≡ refused 5)
+    × (secondReplyCall 16384 32768 (zeroed 0x10001001 4096) (b path) (b calls) ≡ refused 2)
+    × (secondReplyCall 16384 32768 (b part0) (b path) (zeroed 0xb0301000 4095) ≡ refused 5)
+    × (secondReplyCall 16384 32768 (b part0) (b path) (zeroed 0xb0301001 4096) ≡ refused 2)
+    × (oldSearchCall 32768 32768 (zeroed 0x10001000 4095) (b path) ≡ refused 5)
+    × (oldSearchCall 32768 32768 (zeroed 0x10001001 4096) (b path) ≡ refused 2)
+    × (cutCall 16384 32768 (zeroed 0x10001000 4095) [] 0 ≡ refused 5)
+    × (cutCall 16384 32768 (zeroed 0x10001001 4096) [] 0 ≡ refused 2)
+    -- bundles of 8,192
+    × (callListCall 16384 32768 (zeroed 0x70001000 8191) ≡ refused 5)
+    × (callListCall 16384 32768 (zeroed 0x70001000 8192) ≡ refused 2)
+    × (joinCall 32768 32768 (zeroed 0xd0001000 8191) ≡ refused 5)
+    × (joinCall 32768 32768 (zeroed 0xd0001000 8192) ≡ refused 2)
+unfolding flatten closure stepIn reached answers reported doorWords firstReply firstReplyCall secondReply secondReplyCall called callList callListCall joined joinCall listed oldSearchCall cut cutCall zeroed
+limits = (refl, refl, refl, refl, refl, refl, refl, refl, refl, refl, refl, refl, refl, refl)

@@ -1,4 +1,3 @@
-mod Digits
 mod Named
 mod Spaces
 mod Handing

@@ -1,7 +1,7 @@
 // The file that a call left in its output.
-use crate::hex::print_words;
 use files::field::size;
 use files::word::word_at;
+use hex::lines::print_words;
 ghost use mathlib.Core.Path.{_≡_};
 ghost use Prim.Native.Nat.{_≤_};
 ghost use lib.ListN.{length};

@@ -1,6 +1,5 @@
 // The trial program: asks one question from end to end. Its arguments name the files of the whole, the path and the cut list.
 mod file;
-mod hex;
 mod input;
 mod question;
 mod sites;

@@ -184,12 +184,22 @@ fn ask(
     join(&bundle[..end], list, work)
 }
 
+// A slot for each of sixteen sites.
+fn slots() -> [u8; 262144] {
+    [0; 262144]
+}
+
+// A buffer for a call's list or its work.
+fn buffer() -> [u8; 32768] {
+    [0; 32768]
+}
+
 // The whole question; hands back the number. A list that names no site is refused by the cutter, whichever site it is asked for.
 pub fn question(whole: &[u8], path: &[u8], cuts: &[u8]) -> u32 {
-    let mut parts = [0u8; 262144];
-    let mut bundle = [0u8; 262144];
-    let mut list = [0u8; 32768];
-    let mut work = [0u8; 32768];
+    let mut parts = slots();
+    let mut bundle = slots();
+    let mut list = buffer();
+    let mut work = buffer();
     let named = sites_of(cuts);
     let sites = if named == 0 { 1 } else { named };
     let number = cut_parts(whole, cuts, sites, &mut parts, &mut work);

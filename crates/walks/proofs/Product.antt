@@ -4,7 +4,7 @@
 use mathlib.Core.Path.{_≡_, refl, subst}
 use mathlib.Core.Logic.{_↔_, ⊎-elim}
 use mathlib.Core.Bool.{Bool, _&&_}
-use mathlib.Core.List.{List, [], _∷_, _++_, map, Memᴰ·append-left, Memᴰ·append-right, List·Memᴰ·append-cases, List·Memᴰ·eq-of-singleton}
+use mathlib.Core.List.{List, [], _∷_, map, Memᴰ·append-left, Memᴰ·append-right, List·Memᴰ·append-cases, List·Memᴰ·eq-of-singleton}
 use Prim.Native.Nat.{ℕ, zero, suc, _^_, _≤_, _<_}
 use native.Mathlib.Omega.{arith}
 use native.Mathlib.Nat.{le-trans}
@@ -14,7 +14,7 @@ use lib.ListN.{length, length-append}
 use Rattle.sets.specs.Sets.{Mem, here, there, _⊆_, Ascending, Lists, filter, any}
 use Rattle.sets.specs.Reach.{Reach, seed, next}
 use Rattle.sets.proofs.Tests.{and-iff, both}
-use Rattle.sets.proofs.Sets.{flatten-map-iff, lists-iff, filter-iff, filter-ascending}
+use Rattle.sets.proofs.Sets.{append-ascending, flatten-map-iff, lists-iff, filter-iff, filter-ascending}
 use Rattle.sets.proofs.Filter.{any-iff, filter-length, filter-lists, lists-self, map-filter-iff}
 use Rattle.sets.proofs.Reach.{closure-lists, reach-least}
 use Rattle.files.specs.Field.{labelOf, targetOf, pair, pairNode, pairState}
@@ -53,16 +53,10 @@ states-iff n (suc q) = (to, λ h. there (positions-iff n (suc q) .1 (omega arith
 pub states-ascending : (n : ℕ) → Ascending (0 ∷ positions n)
 states-ascending n = (λ p m. positions-iff n p .0 m .0, ascends n)
   where
-    snoc : (xs : List ℕ) (z : ℕ) → Ascending xs → ((x : ℕ) → Mem x xs → x < z) → Ascending (xs ++ z ∷ [])
-    snoc [] z a h = (λ y m. elim m [ ], tt)
-    snoc (x ∷ xs) z a h = (
-      λ y m. ⊎-elim (λ k. a .0 y k) (λ k. omega (arith, h x (here refl), List·Memᴰ·eq-of-singleton k)) (List·Memᴰ·append-cases xs m),
-      snoc xs z (a .1) (λ y m. h y (there m)),
-    )
-
     ascends : (n : ℕ) → Ascending (positions n)
     ascends zero = tt
-    ascends (suc n) = snoc (positions n) (suc n) (ascends n) (λ x m. omega (arith, positions-iff n x .0 m))
+    ascends (suc n) = append-ascending (positions n) (suc n ∷ []) (ascends n) (λ y m. elim m [ ], tt)
+        (λ x y m k. omega (arith, positions-iff n x .0 m, List·Memᴰ·eq-of-singleton k))
 
 pub accepts-small : (e : Expr) (q : ℕ) → T (accepts e q) → q ≤ count e
 accepts-small e zero t = omega arith

@@ -1,21 +1,27 @@
--- `bundles::overall::first_stray` meets its contract. The inner loop is left by both breaks: the outer one ends the search at the last answer.
+-- `bundles::overall::first_stray` meets its contract. The inner loop is left by both breaks: the outer one ends the search at the word that strays.
 -- Assumes nothing.
 use mathlib.Core.Logic.{⊎-elim}
 use borrow.Author.Needs.{needs}
-use Prim.Native.Nat.{_-_, _/_}
+use Prim.Native.Nat.{_-_, _/_, _≤_}
+use native.Mathlib.Omega.{arith}
 use lib.ListN.{length}
-use Rattle.bundles.proofs.Strays.{Seeking, seeking-first, seeking-more, Straying, straying-first, straying-last, straying-other, straying-more, straying-found}
+use Rattle.files.specs.Word.{words}
+use Rattle.files.specs.Bundle.{doorOf, strays}
+use Rattle.files.proofs.Words.{words-length}
+use Rattle.bundles.specs.Seek.{Sought}
+use Rattle.bundles.proofs.Seeking.{sought-first, sought-more, sought-found, sought-none}
+use Rattle.bundles.proofs.Strays.{other-passed, reach-passed, reach-found}
 use Rattle.bundles.proofs.overall.first_stray.Statement.{statement}
 use Rattle.bundles.proofs.overall.first_stray.Tie as tie
 
 abbrev Inv-loop : tie.InvT-loop
-Inv-loop bundle count i w x k₀ k = Seeking bundle x k
+Inv-loop bundle count i w x k₀ k = Sought (doorOf x) (words bundle) k × (k ≤ length bundle / 4)
 
 abbrev μ-loop : tie.MeasureT-loop
 μ-loop bundle count i w x k₀ k = length bundle / 4 - k
 
 abbrev Inv-words : tie.InvT-words
-Inv-words bundle count i₀ i = Straying bundle i
+Inv-words bundle count i₀ i = Sought (strays (words bundle)) (words bundle) i
 
 abbrev μ-words : tie.MeasureT-words
 μ-words bundle count i₀ i = length bundle / 4 - i
@@ -23,11 +29,19 @@ abbrev μ-words : tie.MeasureT-words
 loop-again : tie.Need-loop-again Inv-loop μ-loop Inv-words μ-words
 loop-again c =
     let w = c .before .before in
-    let l = w .before in
-    seeking-more (l .before .loop .inv) (l .loop-test .left) (w .word-at2 .ensures) (c .before .is-door-of .ensures) (c .if2 .left)
+    let f = w .before .before .loop .inv .0 in
+    (sought-more f (w .word-at2 .ensures) (c .before .is-door-of .ensures) (c .if2 .left) (simp words-length (omega arith)), omega arith)
 
 words-again : tie.Need-words-again Inv-loop μ-loop Inv-words μ-words
-words-again c = ⊎-elim (λ w. search (straying-more, needs)) (λ w. search (straying-other, needs)) (c .if1 .came)
+words-again c =
+    let w = c .before .before in
+    let o = w .before in
+    ⊎-elim
+    (λ (t, x, l, n, v, d, e).
+    reach-passed (o .before .words .inv) (simp words-length (o .words-test .taken)) (w .word-at .ensures) (c .before .is-reach .ensures) (t .taken)
+    (x .ensures) (sought-found (l .inv .0) (v .ensures) (d .ensures) (e .taken)) (simp words-length (omega arith)))
+    (λ t. search (other-passed, words-length, needs))
+    (c .if1 .came)
 
 returns-2 : tie.Need-returns-2 Inv-loop μ-loop Inv-words μ-words
 returns-2 c =
@@ -35,8 +49,8 @@ returns-2 c =
     let i = l .before .before in
     let w = i .before .before in
     let o = w .before in
-    straying-found (o .before .words .inv) (o .words-test .taken) (w .word-at .ensures) (i .before .is-reach .ensures) (i .if1 .taken)
-    (l .before .reach-node .ensures) (l .loop .inv) (c .loop-test .taken)
+    reach-found (o .before .words .inv) (simp words-length (o .words-test .taken)) (w .word-at .ensures) (i .before .is-reach .ensures) (i .if1 .taken)
+    (l .before .reach-node .ensures) (sought-none (l .loop .inv .0) (simp words-length (omega arith))) (simp words-length (omega arith))
 
 pub first-stray-spec : {M : Type 1} → statement M
 first-stray-spec =
@@ -46,11 +60,11 @@ first-stray-spec =
     μ-loop
     Inv-words
     μ-words
-    (λ c. straying-first _)
+    (λ c. search (sought-first, needs))
     (λ c. search needs)
     (λ c. search needs)
     (λ c. search needs)
-    (λ c. seeking-first _ _)
+    (λ c. search (sought-first, needs))
     (λ c. search needs)
     (λ c. search needs)
     (λ c. search needs)
@@ -59,5 +73,5 @@ first-stray-spec =
     (λ c. search needs)
     (λ c. search needs)
     words-again
-    (λ c. search (straying-last, needs))
+    (λ c. search (sought-none, words-length, needs))
     returns-2)

@@ -4,13 +4,15 @@ use borrow.Author.Needs.{needs}
 use Prim.Native.Nat.{_-_, _/_}
 use lib.ListN.{length}
 use Rattle.files.specs.Word.{words}
-use Rattle.hub_calls.specs.Search.{Sought}
-use Rattle.hub_calls.proofs.Growing.{sought-first, sought-more, sought-found, sought-none}
+use Rattle.files.proofs.Words.{words-length}
+use Rattle.bundles.specs.Seek.{Sought}
+use Rattle.bundles.proofs.Seeking.{sought-first, sought-more, sought-found, sought-none}
+use Rattle.hub_calls.specs.Search.{isDoorOf}
 use Rattle.hub_calls.proofs.search.find_door.Statement.{statement}
 use Rattle.hub_calls.proofs.search.find_door.Tie as tie
 
 abbrev Inv-loop : tie.InvT-loop
-Inv-loop bundle x count₀ k₀ k = Sought (words bundle) x k
+Inv-loop bundle x count₀ k₀ k = Sought (isDoorOf x) (words bundle) k
 
 abbrev μ-loop : tie.MeasureT-loop
 μ-loop bundle x count₀ k₀ k = length bundle / 4 - k
@@ -27,5 +29,5 @@ find-door-spec =
     (λ c. search (sought-found, needs))
     (λ c. search needs)
     (λ c. search needs)
-    (λ c. search (sought-more, needs))
-    (λ c. search (sought-none, needs)))
+    (λ c. search (sought-more, words-length, needs))
+    (λ c. search (sought-none, words-length, needs)))

@@ -1,8 +1,10 @@
 -- `listing::rows::row_length` meets its contract. Assumes nothing.
+use mathlib.Core.Path.{refl}
+use mathlib.Core.List.{[]}
 use borrow.Author.Needs.{needs}
 use Prim.Native.Nat.{_-_, _≤_}
 use native.Mathlib.Omega.{arith}
-use Rattle.listing.proofs.Rowing.{Counting, counting-none, counting-more, counting-all, states-few}
+use Rattle.listing.proofs.Rowing.{Counting, counting-more, counting-all, states-few, pairs-few}
 use Rattle.listing.proofs.rows.row_length.Statement.{statement}
 use Rattle.listing.proofs.rows.row_length.Tie as tie
 
@@ -13,7 +15,7 @@ abbrev μ-loop : tie.MeasureT-loop
 μ-loop work t n₀ k₀ n k = t - k
 
 loop-holds : tie.Need-loop-holds Inv-loop μ-loop
-loop-holds c = (counting-none _, omega arith)
+loop-holds c = (record { is = λ ws. refl }, omega arith)
 
 states-at-requires : tie.Need-states-at-requires Inv-loop μ-loop
 states-at-requires c κs =
@@ -23,7 +25,9 @@ cast-n : tie.Need-cast-n Inv-loop μ-loop
 cast-n c = omega (arith, c .size .ensures, states-few (c .before .states-at .result))
 
 add-n : tie.Need-add-n Inv-loop μ-loop
-add-n c = omega (arith, c .size .ensures, states-few (c .before .states-at .result), c .before .before .before .before .loop .inv .0 .small)
+add-n c =
+    let l = c .before .before .before .before in
+    omega (arith, c .size .ensures, states-few (c .before .states-at .result), l .loop .inv .0 .is [], pairs-few [] (l .before .before .args .work .now) (l .loop .k))
 
 loop-again : tie.Need-loop-again Inv-loop μ-loop
 loop-again c = (search (counting-more, needs), omega arith)

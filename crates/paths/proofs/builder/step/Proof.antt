@@ -1,6 +1,7 @@
 -- `builder::step` meets its contract. Assumes nothing.
 use borrow.Author.Needs.{needs}
-use Rattle.paths.proofs.Building.{ready-as, ready-label, does-as, word-label, word-operator, word-right}
+use Rattle.files.proofs.Exprs.{wrong-told}
+use Rattle.paths.proofs.Building.{ready-as, ready-label, does-as, word-label, word-operator}
 use Rattle.paths.proofs.builder.step.Statement.{statement}
 use Rattle.paths.proofs.builder.step.Tie as tie
 
@@ -27,4 +28,4 @@ step-spec =
     does-as (word-operator (b .before .args .w) (b .read-expr .ensures) (c .before .before .k .given .1)) (c .operate .ensures))
     (λ c.
     let b = c .before .before in
-    absurd (word-right (b .before .args .w) (b .read-expr .ensures) (b .before .pre .0) (c .enum-told .given .1))))
+    absurd (wrong-told (b .before .args .w) (b .read-expr .ensures) (c .enum-told .given .1) (b .before .pre .0))))

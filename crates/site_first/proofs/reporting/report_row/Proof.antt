@@ -2,41 +2,61 @@
 use borrow.Author.Needs.{needs}
 use native.Mathlib.Omega.{arith}
 use Rattle.files.specs.Word.{words}
-use Rattle.site_first.proofs.Reports.{row-room, again, row-added, row-empty, stays}
+use Rattle.site_first.proofs.Reports.{row-room, row-few, again, row-added, row-empty, stays}
 use Rattle.site_first.proofs.reporting.report_row.Statement.{statement}
 use Rattle.site_first.proofs.reporting.report_row.Tie as tie
 
 run-requires : tie.Need-run-requires
-run-requires c κs = (c .before .before .before .seed .ensures .begun, c .before .before .before .seed .ensures .closed (c .before .before .before .before .before .before .before .before .args .follow) (c .before .before .before .before .before .before .before .before .pre .0 .closed))
+run-requires c κs =
+    let seed = c .before .before .before in
+    let start = seed .before .before .before .before .before in
+    (seed .seed .ensures .begun, seed .seed .ensures .closed (start .args .follow) (start .pre .0 .closed))
 
 row-length-requires : tie.Need-row-length-requires
 row-length-requires c κs = row-room (c .before .before .before .run .ensures .begun .laid)
 
 returns : tie.Need-returns
 returns c =
-    let a = c .before .before .before .before .before .before .before .before .before .before .before .before .before .before .args in
-    let pre = c .before .before .before .before .before .before .before .before .before .before .before .before .before .before .pre in
+    let row = c .before in
+    let run = row .before .before .before .before in
+    let seed = run .before .before .before .before in
+    let start = seed .before .before .before .before .before in
+    let a = start .args in
+    let p = start .pre in
     let ws = words (a .part .now) in (
-      stays ws (a .outside) (a .i) (a .q) (pre .0) (pre .1) (pre .2) (c .before .before .before .before .before .before .before .before .before .seed .ensures) (c .before .before .before .before .before .run .ensures) (c .before .row-length .ensures) (c .if1 .taken),
-      row-empty ws (a .outside) (a .i) (a .q) (pre .0) (pre .1) (pre .2) (c .before .before .before .before .before .before .before .before .before .seed .ensures) (c .before .before .before .before .before .run .ensures) (c .before .row-length .ensures) (c .if1 .taken),
+      stays ws (a .outside) (a .i) (a .q) (p .0) (p .1) (p .2) (seed .seed .ensures) (run .run .ensures) (row .row-length .ensures) (c .if1 .taken),
+      row-empty ws (a .outside) (a .i) (a .q) (p .0) (p .1) (p .2) (seed .seed .ensures) (run .run .ensures) (row .row-length .ensures) (c .if1 .taken),
     )
 
 write-row-requires : tie.Need-write-row-requires
 write-row-requires c κs =
-    let r = row-room (c .before .before .before .before .before .before .before .run .ensures .begun .laid) in
-    (r .0, r .1, r .2, c .before .before .before .before .before .before .before .before .before .before .before .before .before .before .before .before .pre .2, omega arith, search needs)
+    let run = c .before .before .before .before .before .before .before in
+    let start = run .before .before .before .before .before .before .before .before .before in
+    let r = row-room (run .run .ensures .begun .laid) in
+    (r .0, r .1, r .2, start .pre .2, omega arith, search needs)
 
 reset-requires : tie.Need-reset-requires
 reset-requires c κs = c .before .before .before .before .before .before .before .before .before .before .before .run .ensures .begun .laid
 
+add-advance : tie.Need-add-advance
+add-advance c =
+    let row = c .before .before .before .before .before .before .before .before .before .before in
+    omega (arith, row-few (row .before .before .before .before .run .ensures .begun .laid) (row .row-length .ensures))
+
 returns-2 : tie.Need-returns-2
 returns-2 c =
-    let a = c .before .before .before .before .before .before .before .before .before .before .before .before .before .before .before .before .before .before .before .before .before .before .before .args in
-    let pre = c .before .before .before .before .before .before .before .before .before .before .before .before .before .before .before .before .before .before .before .before .before .before .before .pre in
-    let ws = words (a .part .now) in (
-      again (c .before .before .before .before .before .before .before .before .before .before .before .before .before .before .before .before .before .before .seed .ensures) (c .before .before .before .before .before .before .before .before .before .before .before .before .before .before .run .ensures) (c .before .before .reset .ensures),
-      row-added ws (a .outside) (a .i) (a .q) (pre .0) (pre .1) (pre .2) (c .before .before .before .before .before .before .before .before .before .before .before .before .before .before .before .before .before .before .seed .ensures) (c .before .before .before .before .before .before .before .before .before .before .before .before .before .before .run .ensures) (c .before .before .before .before .before .before .before .before .before .before .row-length .ensures) (c .before .before .before .before .before .before .before .before .before .if1 .left)
-          (c .before .before .before .before .before .before .write-row .ensures),
+    let reset = c .before .before .before in
+    let write = reset .before .before .before .before in
+    let some = write .before .before .before in
+    let row = some .before in
+    let run = row .before .before .before .before in
+    let seed = run .before .before .before .before in
+    let start = seed .before .before .before .before .before in
+    let a = start .args in
+    let p = start .pre in (
+      again (seed .seed .ensures) (run .run .ensures) (reset .reset .ensures),
+      row-added (words (a .part .now)) (a .outside) (a .i) (a .q) (p .0) (p .1) (p .2) (seed .seed .ensures) (run .run .ensures) (row .row-length .ensures) (some .if1 .left)
+          (write .write-row .ensures) (c .advance .ensures),
     )
 
 pub report-row-spec : {M : Type 1} → statement M
@@ -50,6 +70,8 @@ report-row-spec =
     returns
     write-row-requires
     reset-requires
+    add-advance
+    (λ c. search needs)
     (λ c. search needs)
     (λ c. search needs)
     returns-2)

@@ -4,7 +4,7 @@ use files::cursor::Step;
 ghost use mathlib.Core.Path.{_≡_};
 ghost use Prim.Native.Nat.{_%_};
 ghost use Rattle.io.specs.Digits.{glyph};
-ghost use Rattle.trial.specs.Hex.{hexLine};
+ghost use Rattle.hex.specs.Hex.{hexLine};
 
 // The lowest digit.
 fn digit(w: u32) -> u8

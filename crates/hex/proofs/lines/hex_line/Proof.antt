@@ -1,9 +1,9 @@
--- `trial::hex::hex_line` meets its contract.
+-- `hex::lines::hex_line` meets its contract.
 -- Assumes nothing.
 use borrow.Author.Needs.{needs}
-use Rattle.trial.proofs.Digits.{line-is}
-use Rattle.trial.proofs.hex.hex_line.Statement.{statement}
-use Rattle.trial.proofs.hex.hex_line.Tie as tie
+use Rattle.hex.proofs.Digits.{line-is}
+use Rattle.hex.proofs.lines.hex_line.Statement.{statement}
+use Rattle.hex.proofs.lines.hex_line.Tie as tie
 
 returns : tie.Need-returns
 returns c = search (line-is, needs)

@@ -1,9 +1,9 @@
--- `trial::hex::digit` meets its contract.
+-- `hex::lines::digit` meets its contract.
 -- Assumes nothing.
 use borrow.Author.Needs.{needs}
-use Rattle.trial.proofs.Digits.{glyph-number, glyph-letter}
-use Rattle.trial.proofs.hex.digit.Statement.{statement}
-use Rattle.trial.proofs.hex.digit.Tie as tie
+use Rattle.hex.proofs.Digits.{glyph-number, glyph-letter}
+use Rattle.hex.proofs.lines.digit.Statement.{statement}
+use Rattle.hex.proofs.lines.digit.Tie as tie
 
 returns : tie.Need-returns
 returns c = search (glyph-number, needs)

@@ -1,12 +1,12 @@
 -- A digit's glyph, and a line from its digits.
-use mathlib.Core.Path.{_≡_, ap}
+use mathlib.Core.Path.{_≡_}
 use mathlib.Core.List.{[], _∷_}
 use Prim.Native.Nat.{ℕ, _+_, _-_, _/_, _%_, _≤_, _<_}
 use native.Mathlib.Nat.{div-one}
 use native.Mathlib.Omega.{arith}
 use borrow.Author.Tests.{lt-ltb, le-ltb}
 use Rattle.io.specs.Digits.{glyph}
-use Rattle.trial.specs.Hex.{hexLine}
+use Rattle.hex.specs.Hex.{hexLine}
 
 pub glyph-number : (d : ℕ) → d < 10 → 48 + d ≡ glyph d
 glyph-number d h = rw (lt-ltb d 10 h)

@@ -1,12 +1,12 @@
--- `trial::hex::print_words` is safe and ends.
+-- `hex::lines::print_words` is safe and ends.
 -- Assumes nothing.
 use borrow.Author.Needs.{needs}
 use Prim.Native.Nat.{_-_}
 use lib.ListN.{length}
 use Rattle.files.specs.Word.{words}
 use Rattle.files.proofs.Reading.{fewer}
-use Rattle.trial.proofs.hex.print_words.Statement.{statement}
-use Rattle.trial.proofs.hex.print_words.Tie as tie
+use Rattle.hex.proofs.lines.print_words.Statement.{statement}
+use Rattle.hex.proofs.lines.print_words.Tie as tie
 
 abbrev Inv-loop : tie.InvT-loop
 Inv-loop file cur₀ cur = Unit {0}

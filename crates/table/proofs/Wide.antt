@@ -1,0 +1,141 @@
+-- Demand 3 is about more than the cutter makes of one file: a plant of 6,000 nodes, which no file holds, on two sites, with a door more than
+-- the cut needs, and the second bundle in another order than the first. Its question goes to the end. Assumes nothing.
+use mathlib.Core.Path.{_≡_, refl, ap}
+use mathlib.Core.Bool.{true, false}
+use mathlib.Core.Logic.{inl, inr}
+use mathlib.Core.List.{List, [], _∷_, _++_, flatten, List·Memᴰ·eq-of-singleton, List·Memᴰ·append-cases}
+use Prim.Native.Nat.{ℕ, zero, suc}
+use native.Mathlib.Omega.{arith}
+use lib.Dec.{lit≤}
+use lib.ListN.{length, getD, length-append, length-map, length-drop}
+use Rattle.sets.specs.Sets.{Mem, here, there, _⊆_, Distinct, filter, perm-swap}
+use Rattle.sets.specs.Reach.{closure}
+use Rattle.sets.proofs.Sets.{filter-iff, on-cons}
+use Rattle.sets.proofs.Filter.{filter-length}
+use Rattle.sets.proofs.Lengths.{pigeonhole, ascending-distinct}
+use Rattle.sets.proofs.Distinct.{distinct-append}
+use Rattle.sets.proofs.Perm.{perm-refl}
+use Rattle.files.specs.Field.{siteOf, nodeOf, targetOf, file, nodeWord, edgeWord}
+use Rattle.files.specs.Part.{isNode, isEdge, nodes, doors, partCheck}
+use Rattle.files.proofs.Words.{words-bytes}
+use Rattle.files.proofs.Blocks.{edge-of}
+use Rattle.files.proofs.Parts.{nodes-ascending}
+use Rattle.walks.specs.Product.{stepIn, reached}
+use Rattle.site_first.specs.First.{reported, doorWords, firstReply}
+use Rattle.hub_calls.specs.CallList.{called, callList}
+use Rattle.mowqachi.specs.Plant.{HasEdge, Fits, body}
+use Rattle.mowqachi.specs.Question.{Call, going, Answer}
+use Rattle.mowqachi.specs.Demand.{Asked, Put, Right, question, Over, NoneOver, Claim}
+use Rattle.mowqachi.proofs.Owed.{list, owed}
+use Rattle.mowqachi.proofs.Demand.{demand-3}
+use Rattle.table.specs.Table.{path}
+use Rattle.table.proofs.Asked.{words-by-test}
+use Rattle.table.proofs.TwoSites.{Site, site-accepted, both, apart, two, only-root, asking, two-small}
+
+-- n nodes from x on, no doors and without links
+unfoldable pub lone : ℕ → ℕ → List ℕ
+lone x zero = []
+lone x (suc n) = nodeWord x false false ∷ lone (suc x) n
+
+-- site 0 has the root 0, linked to 3,000, the door 1, to which nothing links, and 2,998 more nodes; site 1 has the door 3,000, linked to 0, and
+-- 2,999 more
+unfoldable pub left : List ℕ
+left = file 1 0 0 (nodeWord 0 true true ∷ edgeWord 5 3000 ∷ nodeWord 1 true false ∷ lone 2 2998)
+
+unfoldable pub right : List ℕ
+right = file 1 1 0 (nodeWord 3000 true false ∷ edgeWord 6 0 ∷ lone 3001 2999)
+
+pub left-is : Site left 0 0 3000 (0 ∷ []) (0 ∷ 1 ∷ []) (3000 ∷ [])
+unfolding left lone
+left-is = record { word = tt; short = tt; read = refl; site-is = refl; above = tt; below = tt; roots-are = refl; doors-are = refl; crosses = tt }
+
+pub right-is : Site right 1 3000 6000 [] (3000 ∷ []) (0 ∷ 1 ∷ [])
+unfolding right lone
+right-is = record { word = tt; short = tt; read = refl; site-is = refl; above = tt; below = tt; roots-are = refl; doors-are = refl; crosses = tt }
+
+counted : (length (nodes (body left)) ≡ 3000) × (length (nodes (body right)) ≡ 3000)
+unfolding left right lone
+counted = (refl, refl)
+
+-- the question: the first bundle in one order, the second in the other
+abbrev pub wide : Asked
+wide = two left right left-is right-is refl path (words-by-test path tt, lit≤ tt, refl)
+
+abbrev pub widePut : Put wide
+widePut = asking wide (left ∷ right ∷ []) (right ∷ left ∷ []) (perm-refl (wide .parts)) (perm-swap refl refl)
+
+pub orders-differ : widePut .order ≡ widePut .order′ → ⊥
+orders-differ e = omega (arith, ap front e, left-is .site-is, right-is .site-is)
+  where
+    front : List (List ℕ) → ℕ
+    front [] = 0
+    front (f ∷ fs) = siteOf (getD f 0 0)
+
+-- no file holds the plant
+pub no-file : (f : List ℕ) → Fits (wide .plant) f → ⊥
+no-file f fits = omega (
+  arith,
+  counted,
+  length-append (nodes (body left)) (nodes (body right)),
+  pigeonhole all (nodes (body f)) (distinct-append (nodes (body left)) (nodes (body right)) (once left (left-is .read)) (once right (right-is .read))
+      (apart left right left-is right-is refl)) inside,
+  length-map (filter isNode (body f)) nodeOf,
+  filter-length isNode (body f),
+  length-drop 1 f,
+  fits .small,
+)
+  where
+    all : List ℕ
+    all = nodes (body left) ++ nodes (body right)
+
+    once : (g : List ℕ) → partCheck g ≡ 0 → Distinct (nodes (body g))
+    once g c = ascending-distinct (nodes (body g)) (nodes-ascending g c)
+
+    inside : all ⊆ nodes (body f)
+    inside x m = elim (List·Memᴰ·append-cases (nodes (body left)) m) [
+      | inl i ↦ fits .every x (left, here refl, i)
+      | inr i ↦ fits .every x (right, there (here refl), i)
+    ]
+
+-- a door that the cut does not need: no link ends there, and it is not the root
+links : (filter isEdge (body left) ≡ edgeWord 5 3000 ∷ []) × (filter isEdge (body right) ≡ edgeWord 6 0 ∷ [])
+unfolding left right lone
+links = (refl, refl)
+
+link-to : (f : List ℕ) (l x a y : ℕ) → filter isEdge (body f) ≡ l ∷ [] → HasEdge f x a y → y ≡ targetOf l
+link-to f l x a y e (w, m, i, t) =
+    let (k, j, n) = edge-of (body f) x w m in
+    omega (arith, t, ap targetOf (List·Memᴰ·eq-of-singleton (rw e at (filter-iff isEdge w (body f) .1 (k, j)))))
+
+pub further-door : Mem 1 (doors (body left)) × ((x a : ℕ) → wide .plant .Link x a 1 → ⊥) × (wide .plant .Root 1 → ⊥)
+further-door = (
+  rw (left-is .doors-are) (there (here refl)),
+  λ x a (f, m, e). both left right left-is right-is refl (λ f. HasEdge f x a 1 → ⊥) (λ e. omega (arith, link-to left (edgeWord 5 3000) x a 1 (links .0) e))
+      (λ e. omega (arith, link-to right (edgeWord 6 0) x a 1 (links .1) e)) f m e,
+  λ r. omega (arith, only-root left right left-is right-is refl 1 r),
+)
+
+pub wide-claim : Claim wide widePut (owed wide widePut)
+wide-claim = demand-3 .claim wide widePut (owed wide widePut) (two-small wide widePut (omega arith))
+
+-- nothing that is owed is over its limit, so the question goes on to the end, and its list is demand 2's
+wide-firsts : (length (firstReply left path) ≡ 7) × (length (firstReply right path) ≡ 6)
+unfolding left right lone flatten closure stepIn reached reported doorWords firstReply
+wide-firsts = (refl, refl)
+
+wide-list : length (list wide widePut) ≡ 5
+unfolding left right lone flatten closure stepIn reached reported doorWords firstReply called callList
+wide-list = refl
+
+wide-none : NoneOver wide widePut (owed wide widePut)
+unfolding owed
+wide-none =
+    on-cons Short (λ h. omega (arith, rw (words-bytes left (site-accepted left-is .0)) at h, wide-firsts .0))
+    (on-cons Short (λ h. omega (arith, rw (words-bytes right (site-accepted right-is .0)) at h, wide-firsts .1))
+    (on-cons Short (λ h. omega (arith, wide-list)) (on-cons Short (λ h. h) (on-cons Short (λ h. h) (on-cons Short (λ h. h) (λ c m. elim m [ ]))))))
+  where
+    Short : Call → Type 0
+    Short c = Over wide widePut (owed wide widePut) c → ⊥
+
+pub wide-ends : (a : Answer) × (question wide widePut ≡ going a) × Right wide a
+wide-ends = wide-claim .ends wide-none
