@@ -9,6 +9,7 @@ pub const CALL: u32 = 12 << 28;
 pub const ANSWER: u32 = 14 << 28;
 pub const DOOR: u32 = 1 << 16;
 pub const ROOT: u32 = 1 << 17;
+pub const STOPPED: u32 = 1 << 18;
 /// The root bit of a door word.
 pub const ROOT_DOOR: u32 = 1 << 16;
 

@@ -8,15 +8,7 @@
 
 #include "calls.h"
 #include "compare.h"
-
-static uint32_t draw(uint32_t below)
-{
-    static uint32_t state = 2463534242u;
-    state ^= state << 13;
-    state ^= state >> 17;
-    state ^= state << 5;
-    return state % below;
-}
+#include "drafts.h"
 
 static void push(struct file *f, uint32_t w)
 {
@@ -48,12 +40,14 @@ static void parse(struct sample *s, enum subject subject, const char *text)
 }
 
 #define W "10000007 20030001 30050002 20000002 30060003 20000003 30050002"
+#define HALTED "10000007 20030001 30050002 20000002 30060003 20040003 30050002"
 #define P "40300007 50005005 50006006 50005005 60000001 60000003 60000001"
 #define FIRST_0 "7030000b 80010001 90000000 a0000021 90000002 a0000023 80000003 90000000 a0000021 90000002 a0000023"
 #define FIRST_1 "71300006 80000002 90000001 a0000032 90000003 a0000032"
 #define CALL_WORDS "b0300005 c0000010 c0000021 c0000023 c0000032"
+#define STOPPED_DOOR "10000005 20030001 30050002 20050003 30050002"
 
-/* Document 01's table and end-to-end files, then rows of docs/DECISIONS.md on which readings differ. */
+/* Document 01's table and end-to-end files, then rows of docs/DECISIONS.md on which readings differ, then stopped nodes. */
 static const struct example {
     enum subject subject;
     uint32_t number;
@@ -100,14 +94,26 @@ static const struct example {
     {AS_SECONDS, 13, "d0000002 e0000001; d1000002 e0000001"},
     {AS_SECONDS, 12, "d0000002 e0000001; d0000002 e0000001"},
     {AS_SECONDS, 0, "d0000001"},
+    {AS_WHOLE, 0, HALTED},
+    {AS_WHOLE, 0, "10000002 20070001"},
+    {AS_WHOLE, 7, "10000002 20050001"},
+    {AS_WHOLE, 8, "10000003 20070001 30050002"},
+    {AS_PART, 0, STOPPED_DOOR},
+    {AS_PART, 5, "10000002 20080001"},
+    {AS_PART, 6, "10000003 20040002 20000002"},
+    {AS_PART, 7, "10000002 20060001"},
+    {AS_PART, 7, "10000003 20070001 20030002"},
+    {AS_CUT, 0, HALTED "; 0 1 0"},
+    {AS_ASKED, 0, STOPPED_DOOR "; " P "; b0300004 c0000010 c0000021 c0000032"},
+    {AS_ASKED, 14, "10000002 20040002; " P "; " CALL_WORDS},
 };
 
-/* Files that the damaged ones are made of. */
+/* Files that the damaged ones are made of, with and without stopped nodes. */
 static const struct example seeds[] = {
     {AS_PART, 0, "10000005 20030001 30050002 20010003 30050002"},
-    {AS_PART, 0, "1a000009 20000000 30000000 30000001 3fff0000 20030007 37ff0007 3800ffff 2001ffff"},
+    {AS_PART, 0, "1a000009 20040000 30000000 30000001 3fff0000 20070007 37ff0007 3800ffff 2005ffff"},
     {AS_WHOLE, 0, W},
-    {AS_WHOLE, 0, "1f000007 20000000 20030002 30010000 30010002 30020003 20010003"},
+    {AS_WHOLE, 0, "1f000007 20040000 20070002 30010000 30010002 30020003 20050003"},
     {AS_PATH, 0, P},
     {AS_PATH, 0, "40200006 51000007 60000000 60000002 50fff000 60000001"},
     {AS_CALLS, 0, CALL_WORDS},
@@ -115,9 +121,9 @@ static const struct example seeds[] = {
     {AS_FIRSTS, 0, "72100003 80000000 80010005; 70100007 80000007 90000000 a0000051 a0000071 90000001 a0000001; 73100001"},
     {AS_SECONDS, 0, "d0300001; d1300002 e0000002"},
     {AS_SECONDS, 0, "d5f00004 e0000001 e0000003 e000ffff; d0f00003 e0000000 e0000002; dff00001"},
-    {AS_CUT, 0, W "; 0 1 0"},
+    {AS_CUT, 0, HALTED "; 0 1 0"},
     {AS_ASKED, 0, "10000005 20030001 30050002 20010003 30050002; " P "; " CALL_WORDS},
-    {AS_ASKED, 0, "10000003 20030001 20000002; " P "; b0300003 c0000010 c0000033"},
+    {AS_ASKED, 0, "10000003 20070001 20040002; " P "; b0300003 c0000010 c0000033"},
 };
 
 static void copy(struct sample *to, const struct sample *from)

@@ -30,8 +30,8 @@ static struct verdict at(struct verdict v, size_t i)
 
 static struct verdict check_node(const struct seen *seen, uint32_t w)
 {
-    if (bits(w, 27, 18) != 0)
-        return fault(5, "a bit of 27..18 is set in a node word");
+    if (bits(w, 27, 19) != 0)
+        return fault(5, "a bit of 27..19 is set in a node word");
     if (node_of(w) < seen->low)
         return fault(6, "the node is not above the one before");
     if (root_bit(w) && !door_bit(w))

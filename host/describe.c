@@ -38,7 +38,8 @@ static void print_label(uint32_t w, unsigned state)
 static void print_part_word(uint32_t w, const struct nodes *own)
 {
     if (kind_of(w) == NODE)
-        printf("%-12s %u%s%s", "node", node_of(w), door_bit(w) ? ", door" : "", root_bit(w) ? ", root" : "");
+        printf("%-12s %u%s%s%s", "node", node_of(w), door_bit(w) ? ", door" : "", root_bit(w) ? ", root" : "",
+               stopped_bit(w) ? ", stopped" : "");
     else
         printf("%-12s label %u, target %u%s", "edge", label_of(w), node_of(w), has_node(own, node_of(w)) ? "" : ", outside");
 }
@@ -166,19 +167,20 @@ void print_expression(struct span path)
 void print_counts(struct span part)
 {
     struct nodes own, met = {{0}};
-    size_t nodes = 0, doors = 0, edges = 0, outside = 0;
+    size_t nodes = 0, doors = 0, stopped = 0, edges = 0, outside = 0;
     collect(&own, part, NODE);
     for (size_t i = 1; i < words_of(part); i++) {
         uint32_t w = word_at(part, i);
         nodes += kind_of(w) == NODE;
         doors += kind_of(w) == NODE && door_bit(w);
+        stopped += kind_of(w) == NODE && stopped_bit(w);
         edges += kind_of(w) == EDGE;
         if (kind_of(w) == EDGE && !has_node(&own, node_of(w)) && !has_node(&met, node_of(w))) {
             add_node(&met, node_of(w));
             outside++;
         }
     }
-    printf("nodes %zu, doors %zu, edges %zu, outside targets %zu\n", nodes, doors, edges, outside);
+    printf("nodes %zu, doors %zu, stopped %zu, edges %zu, outside targets %zu\n", nodes, doors, stopped, edges, outside);
 }
 
 static void print_outside(struct span part)
@@ -194,18 +196,25 @@ static void print_outside(struct span part)
     }
 }
 
+/* A node's shape tells what it is; a stopped one is filled, as dashes stand for outside. */
+static void print_shape(uint32_t node)
+{
+    printf("    %u [shape=%s%s];\n", node_of(node), root_bit(node) ? "doubleoctagon" : door_bit(node) ? "box" : "ellipse",
+           stopped_bit(node) ? ", style=filled, fillcolor=gray" : "");
+}
+
 void print_picture(struct span part)
 {
     unsigned owner = 0;
     printf("digraph part {\n    rankdir=LR;\n    label=\"site %u\";\n", site_of(word_at(part, 0)));
     for (size_t i = 1; i < words_of(part); i++) {
         uint32_t w = word_at(part, i);
-        if (kind_of(w) == NODE)
+        if (kind_of(w) == NODE) {
             owner = node_of(w);
-        if (kind_of(w) == NODE)
-            printf("    %u [shape=%s];\n", owner, root_bit(w) ? "doubleoctagon" : door_bit(w) ? "box" : "ellipse");
-        else
+            print_shape(w);
+        } else {
             printf("    %u -> %u [label=\"%u\"];\n", owner, node_of(w), label_of(w));
+        }
     }
     print_outside(part);
     printf("}\n");

@@ -1,5 +1,5 @@
-/* One question from end to end, as a host asks it: document 01's whole W, cut at 0, 1, 0, and its path P. Each site and the hub are played
-   in turn; the joined list must be the old search's. Prints every file that goes over a line. */
+/* Questions from end to end, as a host asks them: document 01's whole W, cut at 0, 1, 0, and its path P; then plants with a stopped node. Each
+   site and the hub are played in turn; the joined list must be the old search's. Prints every file that goes over a line. */
 #include <inttypes.h>
 #include <stdio.h>
 #include <stdlib.h>
@@ -19,11 +19,27 @@ static struct file whole, path, parts[SITES], firsts[SITES], calls, seconds[SITE
 static const uint8_t cuts[] = {0, 1, 0};
 static uint8_t work[MOWQACHI_WORK_BYTES];
 
-static void put_words(struct file *f, const uint32_t *words, size_t count)
+#define HALTED {0x10000007, 0x20030001, 0x30050002, 0x20000002, 0x30060003, 0x20040003, 0x30050002}
+#define P {0x40300007, 0x50005005, 0x50006006, 0x50005005, 0x60000001, 0x60000003, 0x60000001}
+
+static const struct question {
+    const char *name;
+    size_t nodes;       /* bytes of the cut list */
+    uint32_t whole[7], path[7];
+} questions[] = {
+    {"document 01: 5 then (6 then 5)*", 3, {0x10000007, 0x20030001, 0x30050002, 0x20000002, 0x30060003, 0x20000003, 0x30050002}, P},
+    {"node 3 stopped: 5 then (6 then 5)*", 3, HALTED, P},
+    {"node 3 stopped: 5 then 6, which ends there", 3, HALTED, {0x40200004, 0x50005005, 0x50006006, 0x60000001}},
+    {"node 3 stopped: 5 then 6 then 5, through it", 3, HALTED, {0x40300006, 0x50005005, 0x50006006, 0x60000001, 0x50005005, 0x60000001}},
+    {"the root stopped: the empty word", 1, {0x10000002, 0x20070001}, {0x40000002, 0x60000000}},
+};
+
+/* Words that begin with a header, which tells how many there are. */
+static void put_file(struct file *f, const uint32_t *words)
 {
-    for (size_t i = 0; i < 4 * count; i++)
+    f->len = 4 * (words[0] & 0x3fffu);
+    for (size_t i = 0; i < f->len; i++)
         f->bytes[i] = (uint8_t)(words[i / 4] >> 8 * (i % 4));
-    f->len = 4 * count;
 }
 
 static void print_file(const char *name, const struct file *f)
@@ -55,10 +71,10 @@ static void bundle_up(const struct file *files)
     }
 }
 
-static void cut_whole(void)
+static void cut_whole(size_t nodes)
 {
     for (uint32_t s = 0; s < SITES; s++)
-        take("part", mowqachi_cut(whole.bytes, whole.len, cuts, sizeof cuts, s, parts[s].bytes, sizeof parts[s].bytes, work, sizeof work),
+        take("part", mowqachi_cut(whole.bytes, whole.len, cuts, nodes, s, parts[s].bytes, sizeof parts[s].bytes, work, sizeof work),
              &parts[s]);
 }
 
@@ -80,22 +96,27 @@ static void second_trip(void)
     take("final list", mowqachi_join(bundle.bytes, bundle.len, joined.bytes, sizeof joined.bytes, work, sizeof work), &joined);
 }
 
-int main(void)
+static void ask(const struct question *q)
 {
-    static const uint32_t w[] = {0x10000007, 0x20030001, 0x30050002, 0x20000002, 0x30060003, 0x20000003, 0x30050002};
-    static const uint32_t p[] = {0x40300007, 0x50005005, 0x50006006, 0x50005005, 0x60000001, 0x60000003, 0x60000001};
-    put_words(&whole, w, sizeof w / sizeof *w);
-    put_words(&path, p, sizeof p / sizeof *p);
+    printf("%s\n", q->name);
+    put_file(&whole, q->whole);
+    put_file(&path, q->path);
     print_file("whole", &whole);
     print_file("path", &path);
-    cut_whole();
+    cut_whole(q->nodes);
     first_trip();
     second_trip();
     take("old search", mowqachi_old_search(whole.bytes, whole.len, path.bytes, path.len, old.bytes, sizeof old.bytes, work, sizeof work), &old);
     if (memcmp(joined.bytes, old.bytes, sizeof old.bytes) != 0) {
         printf("the two lists differ\n");
-        return 1;
+        exit(1);
     }
-    printf("the joined list is the old search's\n");
+    printf("the joined list is the old search's\n\n");
+}
+
+int main(void)
+{
+    for (size_t i = 0; i < sizeof questions / sizeof *questions; i++)
+        ask(&questions[i]);
     return 0;
 }

@@ -9,14 +9,10 @@
 #include <sys/mman.h>
 
 #include "calls.h"
+#include "drafts.h"
 
 /* No call may need more than BOUND bytes: docs/CALLS.md says so. */
 enum { STACK = 65536, GUARD = 4096, PAINT = 0xc3, RED_ZONE = 128, BOUND = 2048, MOST_JOBS = 32 };
-
-struct file {
-    size_t len;
-    uint8_t bytes[4 * MOWQACHI_BUNDLE_WORDS];
-};
 
 /* A call to be made on the small stack, and what came of it. */
 struct job {
@@ -30,15 +26,6 @@ struct job {
 
 static struct job jobs[MOST_JOBS];
 static int job_count;
-
-static uint32_t draw(uint32_t below)
-{
-    static uint32_t state = 88675123u;
-    state ^= state << 13;
-    state ^= state >> 17;
-    state ^= state << 5;
-    return state % below;
-}
 
 static _Noreturn void fail(const char *what)
 {
@@ -54,61 +41,47 @@ static void *get(size_t len)
     return bytes;
 }
 
-static void push(struct file *f, uint32_t w)
-{
-    for (int k = 0; k < 4; k++)
-        f->bytes[f->len++] = (uint8_t)(w >> 8 * k);
-}
-
-/* Ends the file that begins at byte `from`: writes its header. */
-static void end_file(struct file *f, size_t from, uint32_t header)
-{
-    size_t end = f->len;
-    f->len = from;
-    push(f, header + (uint32_t)(end - from) / 4);
-    f->len = end;
-}
-
 /* Nodes from 0 upward, all of them doors, node 0 the root, each with so many links on label 0 to nodes below `targets`: a part of at most
-   4,096 words. */
-static void fill_part(struct file *f, uint32_t links, uint32_t targets)
+   4,096 words. Every `stop`-th node is stopped, none where it is 0. */
+static void fill_part(struct draft *f, uint32_t links, uint32_t targets, uint32_t stop)
 {
     uint32_t nodes = (MOWQACHI_PART_WORDS - 1) / (links + 1);
     f->len = 4;
     for (uint32_t x = 0; x < nodes; x++) {
-        push(f, (x == 0 ? 0x20030000 : 0x20010000) + x);
+        bool stopped = stop > 0 && x % stop == stop - 1;
+        put(f, (x == 0 ? 0x20030000 : 0x20010000) + (stopped ? 0x40000 : 0) + x);
         for (uint32_t k = 0; k < links; k++)
-            push(f, 0x30000000 + k * (targets / links) + draw(targets / links));
+            put(f, 0x30000000 + k * (targets / links) + draw(targets / links));
     }
     end_file(f, 0, 0x10000000);
 }
 
 /* One door, and as many outside targets as fit, met in descending order: the dearest to keep in order. */
-static void fill_outside(struct file *f)
+static void fill_outside(struct draft *f)
 {
     f->len = 4;
-    push(f, 0x20010000);
+    put(f, 0x20010000);
     for (uint32_t i = 0; i < MOWQACHI_PART_WORDS - 2; i++)
-        push(f, 0x30000000 + (i << 16) + (60000 - i));
+        put(f, 0x30000000 + (i << 16) + (60000 - i));
     end_file(f, 0, 0x10000000);
 }
 
 /* 64 words and 15 labels: full ranges and an empty word that all wait, then operators, then stars. */
-static void fill_path(struct file *f, uint32_t operator)
+static void fill_path(struct draft *f, uint32_t operator)
 {
     f->len = 4;
     for (int i = 0; i < MOWQACHI_PATH_LABELS; i++)
-        push(f, 0x50fff000);
-    push(f, 0x60000000);
+        put(f, 0x50fff000);
+    put(f, 0x60000000);
     for (int i = 0; i < MOWQACHI_PATH_LABELS; i++)
-        push(f, operator);
+        put(f, operator);
     while (f->len < 4 * MOWQACHI_PATH_WORDS)
-        push(f, 0x60000003);
+        put(f, 0x60000003);
     end_file(f, 0, 0x40f00000);
 }
 
 /* Two replies of doors in a chain: each door's row leads to the door before, so that the hub's search goes back and forth. */
-static void fill_chain(struct file *f)
+static void fill_chain(struct draft *f)
 {
     uint32_t each = (MOWQACHI_REPLY_WORDS - 1) / 3;
     f->len = 0;
@@ -116,43 +89,38 @@ static void fill_chain(struct file *f)
         size_t from = f->len;
         f->len += 4;
         for (uint32_t x = site * each; x < (site + 1) * each; x++) {
-            push(f, (x + 1 == 2 * each ? 0x80010000 : 0x80000000) + x);
-            push(f, 0x90000000);
-            push(f, 0xa0000000 + 16 * (x == 0 ? 0 : x - 1));
+            put(f, (x + 1 == 2 * each ? 0x80010000 : 0x80000000) + x);
+            put(f, 0x90000000);
+            put(f, 0xa0000000 + 16 * (x == 0 ? 0 : x - 1));
         }
         end_file(f, from, 0x70f00000 + (site << 24));
     }
 }
 
 /* A root that reaches 255 doors in all states, and at most 4,096 words of doors behind it. */
-static void fill_wide(struct file *f)
+static void fill_wide(struct draft *f)
 {
     f->len = 4;
-    push(f, 0x80010000);
-    push(f, 0x90000000);
+    put(f, 0x80010000);
+    put(f, 0x90000000);
     for (uint32_t c = 16; c < 16 * 256; c++)
-        push(f, 0xa0000000 + c);
+        put(f, 0xa0000000 + c);
     end_file(f, 0, 0x70f00000);
     size_t from = f->len;
     f->len += 4;
     for (uint32_t x = 1; x < MOWQACHI_REPLY_WORDS; x++)
-        push(f, 0x80000000 + x);
+        put(f, 0x80000000 + x);
     end_file(f, from, 0x71f00000);
 }
 
 /* Words of a kind that go up by one: a call list, or a second reply. */
-static void fill_words(struct file *f, uint32_t header, uint32_t first)
+static void fill_words(struct draft *f, uint32_t header, uint32_t first)
 {
     size_t from = f->len;
     f->len += 4;
     for (uint32_t i = 0; i + 1 < MOWQACHI_REPLY_WORDS; i++)
-        push(f, first + i);
+        put(f, first + i);
     end_file(f, from, header);
-}
-
-static struct span span_of(const struct file *f)
-{
-    return (struct span){f->bytes, f->len};
 }
 
 static void add(enum call call, uint32_t expected, struct span a, struct span b, struct span c)
@@ -162,12 +130,13 @@ static void add(enum call call, uint32_t expected, struct span a, struct span b,
 
 static void add_searches(void)
 {
-    static struct file loops, ring, reply, outside, ors, thens, calls;
+    static struct draft loops, halted, ring, reply, outside, ors, thens, calls;
     static uint8_t cuts[MOWQACHI_PART_WORDS];
     const struct span none = {NULL, 0};
-    fill_part(&loops, 2, 1365);
-    fill_part(&ring, 1, 2047);
-    fill_part(&reply, 3, 60000);
+    fill_part(&loops, 2, 1365, 0);
+    fill_part(&halted, 2, 1365, 3);
+    fill_part(&ring, 1, 2047, 0);
+    fill_part(&reply, 3, 60000, 0);
     fill_outside(&outside);
     fill_path(&ors, 0x60000002);
     fill_path(&thens, 0x60000001);
@@ -175,21 +144,25 @@ static void add_searches(void)
     for (size_t i = 0; i < sizeof cuts; i++)
         cuts[i] = (uint8_t)draw(MOWQACHI_SITES);
     add(OLD_SEARCH, 0, span_of(&loops), span_of(&ors), none);
+    add(OLD_SEARCH, 0, span_of(&halted), span_of(&ors), none);
     add(OLD_SEARCH, 0, span_of(&ring), span_of(&thens), none);
     add(CUT, 0, span_of(&loops), (struct span){cuts, 1365}, none);
+    add(CUT, 0, span_of(&halted), (struct span){cuts, 1365}, none);
     add(CUT, 0, span_of(&ring), (struct span){cuts, 2047}, none);
     add(FIRST_REPLY, 0, span_of(&loops), span_of(&ors), none);
+    add(FIRST_REPLY, 0, span_of(&halted), span_of(&ors), none);
     add(FIRST_REPLY, 0, span_of(&ring), span_of(&thens), none);
     add(FIRST_REPLY, MOWQACHI_RESULT, span_of(&reply), span_of(&ors), none);
     add(FIRST_REPLY, MOWQACHI_RESULT, span_of(&outside), span_of(&thens), none);
     add(SECOND_REPLY, 0, span_of(&loops), span_of(&ors), span_of(&calls));
+    add(SECOND_REPLY, 0, span_of(&halted), span_of(&ors), span_of(&calls));
     add(SECOND_REPLY, 0, span_of(&ring), span_of(&thens), span_of(&calls));
     add(SECOND_REPLY, 0, span_of(&outside), span_of(&ors), span_of(&calls));
 }
 
 static void add_bundles(void)
 {
-    static struct file chain, wide, answers;
+    static struct draft chain, wide, answers;
     const struct span none = {NULL, 0};
     fill_chain(&chain);
     fill_wide(&wide);

@@ -35,6 +35,7 @@ size_t length_of(uint32_t header) { return bits(header, 13, 0); }
 unsigned node_of(uint32_t w) { return bits(w, 15, 0); }
 bool door_bit(uint32_t node) { return bits(node, 16, 16); }
 bool root_bit(uint32_t node) { return bits(node, 17, 17); }
+bool stopped_bit(uint32_t node) { return bits(node, 18, 18); }
 bool door_root(uint32_t door) { return bits(door, 16, 16); }
 unsigned label_of(uint32_t edge) { return bits(edge, 27, 16); }
 unsigned sort_of(uint32_t label) { return bits(label, 27, 24); }

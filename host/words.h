@@ -1,4 +1,4 @@
-/* The words and fields of document 01's files. */
+/* The words and fields of document 01's files, with the stopped bit of document 02's request 7. */
 #ifndef WORDS_H
 #define WORDS_H
 
@@ -36,6 +36,7 @@ size_t length_of(uint32_t header);
 unsigned node_of(uint32_t w);     /* of a node, door or answer word; an edge's target */
 bool door_bit(uint32_t node);
 bool root_bit(uint32_t node);
+bool stopped_bit(uint32_t node);
 bool door_root(uint32_t door);
 unsigned label_of(uint32_t edge);
 unsigned sort_of(uint32_t label);

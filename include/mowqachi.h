@@ -1,4 +1,5 @@
-/* The split link search, for a C11 or C++ host. docs/CALLS.md tells which call belongs where; document 01 is the law.
+/* The split link search, for a C11 or C++ host. docs/CALLS.md tells which call belongs where; document 01 is the law, with request 7 of
+   document 02, stopped nodes.
 
    Buffers. A length is in bytes. Any alignment will do. Inputs are only read, and may overlap one another. The output and the working
    buffer overlap nothing: neither each other nor an input. A pointer is never null: where a length is 0, pass the address of any object.
@@ -11,7 +12,10 @@
    Order of checks: 1; then the inputs in the order of the parameters; then 15. In one input 2, 3, 4, then word by word 5, 10, 6, 7, 9,
    then at its end 5, 7, 8, 9. A cut list has only 11, and so has the site asked, after it. In a bundle 2, then file by file as above,
    then over all files 12, 7, 13, 14. A call list by itself, then 12 against the path and 14 against the part. The first check that fails
-   gives the number. */
+   gives the number.
+
+   Stopped nodes. Bit 18 of a node word says that the node is stopped; bits 27..19 are zero. No walk starts at a stopped node or enters one.
+   The host sets and clears the bit in its parts and wholes. */
 #ifndef MOWQACHI_H
 #define MOWQACHI_H
 
@@ -75,23 +79,26 @@ static inline size_t mowqachi_file_bytes(const uint8_t *file)
     return 4u * (file[0] + 256u * (file[1] & 0x3fu));
 }
 
-/* The old search: the final list of a whole plant and a path. Output: MOWQACHI_LIST_BYTES. */
+/* The old search: the final list of a whole plant and a path. A stopped root gives the empty list. Output: MOWQACHI_LIST_BYTES. */
 uint32_t mowqachi_old_search(const uint8_t *whole, size_t whole_len, const uint8_t *path, size_t path_len,
                              uint8_t *out, size_t out_len, uint8_t *work, size_t work_len);
 
 /* The cutter: a site's part of a whole plant. cuts has one byte for each node word of the whole, in order: the node's site.
-   Output: MOWQACHI_PART_BYTES. */
+   Stopped bits are copied; links from and to stopped nodes make doors like any others. Output: MOWQACHI_PART_BYTES. */
 uint32_t mowqachi_cut(const uint8_t *whole, size_t whole_len, const uint8_t *cuts, size_t cuts_len, uint32_t site,
                       uint8_t *out, size_t out_len, uint8_t *work, size_t work_len);
 
-/* First trip, at a site: what walks from its doors reach outside its part. Output: MOWQACHI_REPLY_BYTES. */
+/* First trip, at a site: what walks from its doors reach outside its part, stopped there or not. A stopped door has its door word and no rows.
+   Output: MOWQACHI_REPLY_BYTES. */
 uint32_t mowqachi_first_reply(const uint8_t *part, size_t part_len, const uint8_t *path, size_t path_len,
                               uint8_t *out, size_t out_len, uint8_t *work, size_t work_len);
 
-/* First trip, at the hub: the call list of a bundle of first replies, one after another. Output: MOWQACHI_CALLS_BYTES. */
+/* First trip, at the hub: the call list of a bundle of first replies, one after another. It names stopped doors too, as replies do not tell
+   them apart. Output: MOWQACHI_CALLS_BYTES. */
 uint32_t mowqachi_call_list(const uint8_t *bundle, size_t bundle_len, uint8_t *out, size_t out_len, uint8_t *work, size_t work_len);
 
-/* Second trip, at a site: the nodes of its part that the called pairs lead to. Output: MOWQACHI_REPLY_BYTES. */
+/* Second trip, at a site: the nodes of its part that the called pairs lead to. A call at a stopped door leads to none, and no stopped node is
+   among them. Output: MOWQACHI_REPLY_BYTES. */
 uint32_t mowqachi_second_reply(const uint8_t *part, size_t part_len, const uint8_t *path, size_t path_len,
                                const uint8_t *calls, size_t calls_len,
                                uint8_t *out, size_t out_len, uint8_t *work, size_t work_len);

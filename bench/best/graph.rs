@@ -1,23 +1,16 @@
 //! A part's tables with a place for each node number instead of a search by halves, and outside targets sorted at once.
 use crate::inputs::Ask;
-use crate::plain::{final_list, path, second_reply_by, settle, whole, Automaton, Edge, Graph};
+use crate::plain::{final_list, path, second_reply_by, settle, split, whole, Automaton, Edge, Graph};
 use crate::words::*;
 
 const NONE: u16 = u16::MAX;
 
 pub fn graph(ws: &[u32], a: &Automaton) -> Graph {
-    let (mut nodes, mut starts, mut targets) = (Vec::with_capacity(ws.len()), Vec::with_capacity(ws.len()), Vec::with_capacity(ws.len()));
+    let (nodes, starts, targets) = split(ws);
     let mut places = vec![NONE; 1 << 16];
-    for &w in &ws[1..] {
-        if kind(w) == 2 {
-            places[node(w) as usize] = nodes.len() as u16;
-            nodes.push(w);
-            starts.push(targets.len() as u32);
-        } else {
-            targets.push(w);
-        }
+    for (i, &w) in nodes.iter().enumerate() {
+        places[node(w) as usize] = i as u16;
     }
-    starts.push(targets.len() as u32);
     let mut outside: Vec<u32> = targets.iter().map(|&w| node(w)).filter(|&t| places[t as usize] == NONE).collect();
     outside.sort_unstable();
     outside.dedup();

@@ -11,7 +11,8 @@ pub struct Plant {
     size: usize,
     /// The links of node 0, 1, ..: labels and targets.
     links: Vec<Vec<(u32, u32)>>,
-    doors: Vec<bool>,
+    /// Its door and stopped bits.
+    marks: Vec<u32>,
     path: Vec<u32>,
     calls: Vec<u8>,
 }
@@ -73,7 +74,7 @@ impl Plant {
         let mut ws = vec![0];
         for (x, links) in self.links.iter().enumerate() {
             let root = if x == 0 { ROOT | DOOR } else { 0 };
-            ws.push(NODE | root | if self.doors[x] { DOOR } else { 0 } | x as u32);
+            ws.push(NODE | root | self.marks[x] | x as u32);
             let room = self.size - ws.len() - (self.links.len() - 1 - x);
             let mut edges: Vec<u32> = links.iter().take(room).map(|&(label, target)| edge(label, target)).collect();
             edges.sort_unstable();
@@ -90,24 +91,24 @@ impl Gene for Plant {
         let (part, path) = (words(&ask.file), words(&ask.path));
         let numbers: Vec<u32> = part[1..].iter().filter(|&&w| kind(w) == 2).map(|&w| node(w)).collect();
         let place = |t: u32| numbers.binary_search(&t).map_or(OUTSIDE + t % 5000, |i| i as u32);
-        let (mut links, mut doors): (Vec<Vec<(u32, u32)>>, Vec<bool>) = (Vec::new(), Vec::new());
+        let (mut links, mut marks): (Vec<Vec<(u32, u32)>>, Vec<u32>) = (Vec::new(), Vec::new());
         for &w in &part[1..] {
             if kind(w) == 2 {
                 links.push(Vec::new());
-                doors.push(w & DOOR != 0);
+                marks.push(w & (DOOR | STOPPED));
             } else if let Some(last) = links.last_mut() {
                 last.push((label(w), place(node(w))));
             }
         }
-        Plant { size: part.len(), links, doors, path, calls: ask.calls.clone() }
+        Plant { size: part.len(), links, marks, path, calls: ask.calls.clone() }
     }
 
     fn change(&mut self, draws: &mut Draws) {
         match draws.below(8) {
             0 => self.change_path(draws),
             1 => {
-                let i = draws.below(self.doors.len() as u32) as usize;
-                self.doors[i] = !self.doors[i];
+                let i = draws.below(self.marks.len() as u32) as usize;
+                self.marks[i] ^= if draws.below(4) == 0 { STOPPED } else { DOOR };
             }
             _ => self.change_links(draws),
         }
@@ -123,8 +124,13 @@ impl Gene for Plant {
     fn describe(&self) -> String {
         let part = self.part();
         let nodes = self.links.len();
-        let doors = self.doors.iter().filter(|d| **d).count();
+        let [doors, stopped] = [DOOR, STOPPED].map(|mark| self.marks.iter().filter(|&&m| m & mark != 0).count());
         let path: Vec<String> = self.path.iter().map(|w| format!("{w:08x}")).collect();
-        format!("{} words, {nodes} nodes, {doors} doors, {} links, path {}", part.len(), part.len() - 1 - nodes, path.join(" "))
+        format!(
+            "{} words, {nodes} nodes, {doors} doors, {stopped} stopped, {} links, path {}",
+            part.len(),
+            part.len() - 1 - nodes,
+            path.join(" ")
+        )
     }
 }

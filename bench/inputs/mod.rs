@@ -46,6 +46,9 @@ pub fn old_search() -> Vec<Shape> {
         shape("states one by one", |n| search(parts::one_by_one(n, Doors::Root), paths::one_by_one())),
         shape("dense", |n| search(parts::dense(n, Doors::Root), paths::half_ranges())),
         shape("chain", |n| search(parts::chain(n, Doors::Root), paths::full_ranges())),
+        shape("three random links, every eighth stopped", |n| {
+            search(parts::stopped(parts::random(n, 3, Doors::Root)), paths::half_ranges())
+        }),
     ]
 }
 
@@ -61,6 +64,7 @@ pub fn cut() -> Vec<Shape> {
         shape("three random links, 2 sites", |n| cutting(parts::random(n, 3, Doors::Root), 2)),
         shape("chain, 1 site", |n| cutting(parts::chain(n, Doors::Root), 1)),
         shape("no link, 2 sites", |n| cutting(parts::bare(n, Doors::Root), 2)),
+        shape("three random links, 2 sites, every eighth stopped", |n| cutting(parts::stopped(parts::random(n, 3, Doors::Root)), 2)),
     ]
 }
 
@@ -72,6 +76,12 @@ pub fn first_reply() -> Vec<Shape> {
         shape("no link, all doors", |n| search(parts::bare(n, Doors::All), paths::full_ranges())),
         shape("one link outside a door, a row each", |n| search(parts::doorways(n), paths::any_label())),
         shape("one door, targets outside descending", |n| search(parts::outward(n), paths::last_label())),
+        shape("two random links, fifteen turns, all doors, every eighth stopped", |n| {
+            search(parts::stopped(parts::random(n, 2, Doors::All)), paths::turns())
+        }),
+        shape("one link outside a door, a row each, every eighth stopped", |n| {
+            search(parts::stopped(parts::doorways(n)), paths::any_label())
+        }),
     ]
 }
 
@@ -92,20 +102,22 @@ fn called(part: Vec<u32>, path: Vec<u32>, calls: Vec<u32>) -> Ask {
     Ask { calls: bytes(&calls), ..search(part, path) }
 }
 
+fn all_called(part: Vec<u32>, size: usize) -> Ask {
+    let calls = parts::calls(&parts::nodes(&part), 15, size);
+    called(part, paths::half_ranges(), calls)
+}
+
 pub fn second_reply() -> Vec<Shape> {
     vec![
         shape("targets outside descending", |n| called(parts::outward(n), paths::last_label(), parts::calls(&[0], 15, n))),
-        shape("three random links, all called", |n| {
-            let part = parts::random(n, 3, Doors::All);
-            let calls = parts::calls(&parts::nodes(&part), 15, n);
-            called(part, paths::half_ranges(), calls)
-        }),
+        shape("three random links, all called", |n| all_called(parts::random(n, 3, Doors::All), n)),
         shape("states one by one", |n| called(parts::one_by_one(n, Doors::All), paths::one_by_one(), parts::call_of(0, 2))),
         shape("no link, calls elsewhere", |n| {
             let part = parts::bare(n, Doors::All);
             let odd: Vec<u32> = parts::nodes(&part).iter().map(|x| x + 1).collect();
             called(part, paths::full_ranges(), parts::calls(&odd, 15, n))
         }),
+        shape("three random links, all called, every eighth stopped", |n| all_called(parts::stopped(parts::random(n, 3, Doors::All)), n)),
     ]
 }
 

@@ -24,6 +24,12 @@ fn seal(mut ws: Vec<u32>) -> Vec<u32> {
     ws
 }
 
+/// The part with every eighth node stopped, from the eighth on: the first, which may be the root, runs.
+pub fn stopped(mut part: Vec<u32>) -> Vec<u32> {
+    part[1..].iter_mut().filter(|w| kind(**w) == 2).skip(7).step_by(8).for_each(|w| *w |= STOPPED);
+    part
+}
+
 pub fn nodes(part: &[u32]) -> Vec<u32> {
     part[1..].iter().filter(|&&w| kind(w) == 2).map(|&w| node(w)).collect()
 }

@@ -20,5 +20,5 @@ pub use first_reply::{door_words, first_reply};
 pub use join::join;
 pub use old_search::{final_list, old_search};
 pub use part::{part, whole};
-pub use search::{Edge, Graph};
+pub use search::{split, Edge, Graph};
 pub use second_reply::{second_reply, second_reply_by};

@@ -38,7 +38,7 @@ fn scan(ws: &[u32]) -> Result<bool, u32> {
     for &w in ws {
         match kind(w) {
             2 => {
-                unless(5, w & 0x0ffc_0000 == 0)?;
+                unless(5, w & 0x0ff8_0000 == 0)?;
                 unless(6, low <= node(w))?;
                 let root = w & ROOT != 0;
                 unless(7, !root || (w & DOOR != 0 && !rooted))?;

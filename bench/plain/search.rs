@@ -8,7 +8,7 @@ pub struct Graph {
     /// Where each node's edges begin, and the end.
     pub starts: Vec<u32>,
     pub edges: Vec<Edge>,
-    /// The targets outside the part, ascending; their slots follow those of the nodes.
+    /// The targets outside the part that running nodes have, ascending; their slots follow those of the nodes.
     pub outside: Vec<u32>,
 }
 
@@ -18,19 +18,27 @@ pub struct Edge {
     pub mask: u16,
 }
 
+/// The node words, where each one's edges begin and the end, and the edge words. Those of stopped nodes are left out, so no walk leaves one.
+pub fn split(ws: &[u32]) -> (Vec<u32>, Vec<u32>, Vec<u32>) {
+    let (mut nodes, mut starts, mut edges) = (Vec::with_capacity(ws.len()), Vec::with_capacity(ws.len()), Vec::with_capacity(ws.len()));
+    let mut stopped = false;
+    for &w in &ws[1..] {
+        if kind(w) == 2 {
+            stopped = w & STOPPED != 0;
+            nodes.push(w);
+            starts.push(edges.len() as u32);
+        } else if !stopped {
+            edges.push(w);
+        }
+    }
+    starts.push(edges.len() as u32);
+    (nodes, starts, edges)
+}
+
 impl Graph {
     /// Targets are found by halves, and outside targets are put in their place one by one.
     pub fn new(ws: &[u32], a: &Automaton) -> Graph {
-        let (mut nodes, mut starts, mut edges) = (Vec::with_capacity(ws.len()), Vec::with_capacity(ws.len()), Vec::with_capacity(ws.len()));
-        for &w in &ws[1..] {
-            if kind(w) == 2 {
-                nodes.push(w);
-                starts.push(edges.len() as u32);
-            } else {
-                edges.push(w);
-            }
-        }
-        starts.push(edges.len() as u32);
+        let (nodes, starts, edges) = split(ws);
         let mut outside: Vec<u32> = Vec::new();
         let place = |t: u32| nodes.binary_search_by_key(&t, |&w| node(w));
         for &w in edges.iter().filter(|&&w| place(node(w)).is_err()) {

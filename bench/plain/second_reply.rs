@@ -6,12 +6,13 @@ use super::search::{Graph, Search};
 use crate::inputs::Ask;
 use crate::words::*;
 
-/// The nodes that are reached in an accepting state, behind a header of their own.
+/// The running nodes that are reached in an accepting state, behind a header of their own.
 pub fn answers(search: &Search, accepts: u16, h: u32) -> Vec<u32> {
     let nodes = &search.graph.nodes;
     let mut list = Vec::with_capacity(nodes.len() + 1);
     list.push(h);
-    list.extend(nodes.iter().zip(&search.reached).filter(|(_, &r)| r & accepts != 0).map(|(&w, _)| ANSWER | node(w)));
+    let listed = nodes.iter().zip(&search.reached).filter(|(&w, &r)| r & accepts != 0 && w & STOPPED == 0);
+    list.extend(listed.map(|(&w, _)| ANSWER | node(w)));
     list[0] |= list.len() as u32;
     list
 }

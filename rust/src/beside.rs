@@ -1,7 +1,7 @@
 //! One call, made to the library in guarded buffers and given to the evaluation, and the two compared.
 
 use crate::calls;
-use crate::evaluation::words::{bytes_of, BUNDLE_LIMIT, FILE_LIMIT, WORK_BYTES};
+use crate::evaluation::words::*;
 use crate::evaluation::{self, Outcome, Room};
 use crate::random::Random;
 
@@ -55,6 +55,26 @@ impl Call {
             Call::SecondReply { part, path, calls } => evaluation::second_reply(part, path, calls, room),
             Call::Join { bundle } => evaluation::join(bundle, room),
         }
+    }
+
+    /// The call with those of its stopped nodes running that are among the given node words, if there are any.
+    fn running(&self, among: impl Fn(u32) -> bool) -> Option<Call> {
+        let mut call = self.clone();
+        let file = match &mut call {
+            Call::OldSearch { whole: file, .. } | Call::Cut { whole: file, .. } => file,
+            Call::FirstReply { part: file, .. } | Call::SecondReply { part: file, .. } => file,
+            Call::CallList { .. } | Call::Join { .. } => return None,
+        };
+        let mut words = words_of(file, FILE_LIMIT).ok()?;
+        let taken = |word: &u32| kind(*word) == NODE && bits(*word, 18, 18) == 1 && among(*word);
+        let count = words.iter_mut().filter(|word| taken(word)).map(|word| *word ^= 1 << 18).count();
+        *file = bytes_of(&words);
+        (count > 0).then_some(call)
+    }
+
+    /// Whether an accepted call would have another outcome if these of its stopped nodes were running.
+    pub fn stopped_matter(&self, room: Room, outcome: &Outcome, among: impl Fn(u32) -> bool) -> bool {
+        outcome.is_ok() && self.running(among).is_some_and(|call| call.evaluate(room) != *outcome)
     }
 
     fn make(&self, given: &[Guarded], out: &mut [u8], work: &mut [u8]) -> u32 {

@@ -1,6 +1,9 @@
-//! Random and damaged inputs for every call, by the library and by the evaluation; every check of document 01 must have refused some.
+//! Random and damaged inputs for every call, by the library and by the evaluation; every check of document 01 must have refused some, and
+//! stopped nodes of each sort must have changed some outcomes.
 
-use mowqachi_tests::evaluation::words::Refusal;
+use mowqachi_tests::beside::Call;
+use mowqachi_tests::evaluation::words::*;
+use mowqachi_tests::evaluation::{Outcome, Room};
 use mowqachi_tests::generate::calls::{call, room};
 use mowqachi_tests::random::{cases, seed, Naming, Random};
 use std::collections::BTreeMap;
@@ -72,18 +75,32 @@ const SECOND: Checks = &[(5, "no answer word"), (5, "answer zero bit"), (6, "ans
 const ROOM: Checks = &[(1, "output short"), (1, "working buffer short")];
 const RESULT: Checks = &[(15, "over its limit")];
 
-/// What must be refused at least once, by input. `None` is acceptance.
-fn owed(inputs: &[(&'static str, &[Checks])]) -> BTreeMap<Option<Refusal>, u64> {
-    let checks = inputs.iter().flat_map(|(input, lists)| {
-        lists
-            .iter()
-            .flat_map(|list| list.iter())
-            .map(|(number, why)| Some(Refusal { number: *number, input, why }))
-    });
-    checks.chain([None]).map(|check| (check, 0)).collect()
+/// Stopped nodes, by root and door bit.
+const STOPPED: [(&str, u32); 3] =
+    [("stopped root matters", 3), ("stopped door matters", 1), ("stopped inner node matters", 0)];
+
+/// Where a call that ignores that nodes are stopped would be found out.
+fn ignored(call: &Call, room: Room, outcome: &Outcome) -> Vec<String> {
+    let matters = |marks: u32| call.stopped_matter(room, outcome, |word| bits(word, 17, 16) == marks);
+    STOPPED.iter().filter(|(_, marks)| matters(*marks)).map(|(what, _)| what.to_string()).collect()
 }
 
-/// Makes this share of the cases, and goes on for a while if some check has not been met.
+fn named(refusal: Option<&Refusal>) -> String {
+    refusal.map_or("accepted".to_string(), |r| format!("{} {}: {}", r.number, r.input, r.why))
+}
+
+/// What must be met at least once: acceptance, each check of each input, stopped nodes where an input has nodes.
+fn owed(inputs: &[(&'static str, &[Checks])]) -> BTreeMap<String, u64> {
+    let checks = inputs.iter().flat_map(|(input, lists)| {
+        let list = lists.iter().flat_map(|list| list.iter());
+        list.map(|(number, why)| named(Some(&Refusal { number: *number, input, why })))
+    });
+    let nodes = inputs.iter().any(|(input, _)| ["part", "whole"].contains(input));
+    let stopped = STOPPED.iter().filter(|_| nodes).map(|(what, _)| what.to_string());
+    checks.chain(stopped).chain([named(None)]).map(|what| (what, 0)).collect()
+}
+
+/// Makes this share of the cases, and goes on for a while if something has not been met.
 fn run(name: &'static str, inputs: &[(&'static str, &[Checks])]) {
     let mut seen = owed(&[&[("buffers", &[ROOM][..])], inputs].concat());
     let wanted = cases() * 12 / 100;
@@ -95,16 +112,15 @@ fn run(name: &'static str, inputs: &[(&'static str, &[Checks])]) {
         let call = call(&mut random, name);
         let room = room(&mut random, &call);
         let outcome = call.check(&mut random, room);
-        let count = seen.get_mut(&outcome.as_ref().err().copied());
-        *count.unwrap_or_else(|| panic!("{name} refused by a check it has not: {outcome:?}")) += 1;
+        for what in [vec![named(outcome.as_ref().err())], ignored(&call, room, &outcome)].concat() {
+            let count = seen.get_mut(&what);
+            *count.unwrap_or_else(|| panic!("{name} refused by a check it has not: {outcome:?}")) += 1;
+        }
         made += 1;
     }
-    for (check, count) in &seen {
-        let text = check.map_or("accepted".to_string(), |r| format!("{} {}: {}", r.number, r.input, r.why));
-        println!("{name:12} {count:7} {text}");
-    }
+    seen.iter().for_each(|(what, count)| println!("{name:12} {count:7} {what}"));
     println!("{name:12} {made:7} cases");
-    assert!(seen.values().all(|count| *count > 0), "{name}: some check never refused");
+    assert!(seen.values().all(|count| *count > 0), "{name}: something was never met");
 }
 
 #[test]

@@ -1,4 +1,4 @@
-//! Every example of document 01, by the library and by the evaluation.
+//! Every example of document 01, and stopped nodes in the same files, by the library and by the evaluation.
 
 use mowqachi_tests::beside::{answer, Call};
 use mowqachi_tests::evaluation::words::bytes_of;
@@ -6,10 +6,16 @@ use mowqachi_tests::evaluation::Room;
 use mowqachi_tests::random::Random;
 
 const W: &str = "10000007 20030001 30050002 20000002 30060003 20000003 30050002";
+/// W with its root stopped, and with node 3 stopped.
+const ROOT_STOPPED: &str = "10000007 20070001 30050002 20000002 30060003 20000003 30050002";
+const STOPPED: &str = "10000007 20030001 30050002 20000002 30060003 20040003 30050002";
 const P: &str = "40300007 50005005 50006006 50005005 60000001 60000003 60000001";
 /// 5 then 6 then 5.
 const Q: &str = "40300006 50005005 50006006 60000001 50005005 60000001";
 const ONE_LABEL: &str = "40100002 50005005";
+/// 5 then 6.
+const TWO_LABELS: &str = "40200004 50005005 50006006 60000001";
+const EMPTY_WORD: &str = "40000002 60000000";
 
 fn words(text: &str) -> Vec<u32> {
     text.split_whitespace().map(|word| u32::from_str_radix(word, 16).expect(word)).collect()
@@ -76,26 +82,57 @@ fn all_calls() -> Vec<Call> {
     calls
 }
 
-#[test]
-fn end_to_end() {
-    let parts = ["10000005 20030001 30050002 20010003 30050002", "11000003 20010002 30060003"];
-    let firsts = [
-        "7030000b 80010001 90000000 a0000021 90000002 a0000023 80000003 90000000 a0000021 90000002 a0000023",
-        "71300006 80000002 90000001 a0000032 90000003 a0000032",
-    ];
-    let calls = "b0300005 c0000010 c0000021 c0000023 c0000032";
-    let seconds = ["d0300001", "d1300002 e0000002"];
-    let list = "f0000002 e0000002";
+/// The files of a question with path P over the cut 0, 1, 0, by site.
+struct Files {
+    whole: &'static str,
+    parts: [&'static str; 2],
+    firsts: [&'static str; 2],
+    calls: &'static str,
+    seconds: [&'static str; 2],
+    list: &'static str,
+}
+
+fn made_one_by_one(files: &Files) {
     for site in 0..2 {
-        gives(cut(W, &[0, 1, 0], site as u32), parts[site]);
-        gives(first_reply(parts[site], P), firsts[site]);
-        gives(second_reply(parts[site], P, calls), seconds[site]);
+        gives(cut(files.whole, &[0, 1, 0], site as u32), files.parts[site]);
+        gives(first_reply(files.parts[site], P), files.firsts[site]);
+        gives(second_reply(files.parts[site], P, files.calls), files.seconds[site]);
     }
     for (first, second) in [(0, 1), (1, 0)] {
-        gives(call_list(&format!("{} {}", firsts[first], firsts[second])), calls);
-        gives(join(&format!("{} {}", seconds[first], seconds[second])), list);
+        gives(call_list(&format!("{} {}", files.firsts[first], files.firsts[second])), files.calls);
+        gives(join(&format!("{} {}", files.seconds[first], files.seconds[second])), files.list);
     }
-    gives(old_search(W, P), list);
+    gives(old_search(files.whole, P), files.list);
+}
+
+#[test]
+fn end_to_end() {
+    made_one_by_one(&Files {
+        whole: W,
+        parts: ["10000005 20030001 30050002 20010003 30050002", "11000003 20010002 30060003"],
+        firsts: [
+            "7030000b 80010001 90000000 a0000021 90000002 a0000023 80000003 90000000 a0000021 90000002 a0000023",
+            "71300006 80000002 90000001 a0000032 90000003 a0000032",
+        ],
+        calls: "b0300005 c0000010 c0000021 c0000023 c0000032",
+        seconds: ["d0300001", "d1300002 e0000002"],
+        list: "f0000002 e0000002",
+    });
+}
+
+#[test]
+fn end_to_end_with_a_stopped_door() {
+    made_one_by_one(&Files {
+        whole: STOPPED,
+        parts: ["10000005 20030001 30050002 20050003 30050002", "11000003 20010002 30060003"],
+        firsts: [
+            "70300007 80010001 90000000 a0000021 90000002 a0000023 80000003",
+            "71300006 80000002 90000001 a0000032 90000003 a0000032",
+        ],
+        calls: "b0300004 c0000010 c0000021 c0000032",
+        seconds: ["d0300001", "d1300002 e0000002"],
+        list: "f0000002 e0000002",
+    });
 }
 
 #[test]
@@ -164,7 +201,7 @@ fn row_9_paths() {
 
 #[test]
 fn rows_10_to_14() {
-    refuses(second_reply("10000001", "40000002 60000000", "b0000002 c0000011"), 10);
+    refuses(second_reply("10000001", EMPTY_WORD, "b0000002 c0000011"), 10);
     refuses(call_list("70000003 80010001 90000001"), 10);
     refuses(cut(W, &[0, 16, 0], 0), 11);
     refuses(cut(W, &[0, 1], 0), 11);
@@ -176,7 +213,7 @@ fn rows_10_to_14() {
     refuses(call_list("70000002 80010001 71000002 80000001"), 13);
     refuses(join("d0000002 e0000001 d1000002 e0000001"), 13);
     refuses(call_list("70000004 80010001 90000000 a0000020"), 14);
-    refuses(second_reply("10000002 20000001", "40000002 60000000", "b0000002 c0000010"), 14);
+    refuses(second_reply("10000002 20000001", EMPTY_WORD, "b0000002 c0000010"), 14);
 }
 
 /// Two doors without links between them, each with label 0 to `targets` nodes outside.
@@ -217,20 +254,24 @@ fn row_15_sizes() {
     assert_eq!((number, words.len(), words[0]), (0, 3875, 0x70f0_0000 | 3875));
 }
 
-/// One door, one label and `targets` targets: 3 + targets words.
-fn wide_part(targets: u32) -> Vec<u8> {
-    let mut part = vec![0x1000_0000 | (2 + targets), 0x2001_0000];
+/// One door with links to `targets` targets outside, and `stopped` doors that are stopped.
+fn wide_part(targets: u32, stopped: u32) -> Vec<u8> {
+    let mut part = vec![0x1000_0000 | (2 + targets + stopped), 0x2001_0000];
     part.extend((1..=targets).map(|target| 0x3000_0000 | target));
+    part.extend((0..stopped).map(|door| 0x2005_ff00 | door));
     bytes_of(&part)
 }
 
 #[test]
 fn first_reply_at_its_limit() {
-    let reply = |targets| Call::FirstReply { part: wide_part(targets), path: path(1, &[FULL]) };
-    let (number, words) = made(&reply(4093));
-    assert_eq!((number, words.len()), (0, 4096));
-    refuses(reply(4094), 15);
-    refuses(reply(4095), 2);
+    let reply =
+        |targets, stopped| Call::FirstReply { part: wide_part(targets, stopped), path: path(1, &[FULL]) };
+    for stopped in [0, 1] {
+        let (number, words) = made(&reply(4093 - stopped, stopped));
+        assert_eq!((number, words.len()), (0, 4096));
+        refuses(reply(4094 - stopped, stopped), 15);
+        refuses(reply(4095 - stopped, stopped), 2);
+    }
 }
 
 /// The root calls `first` pairs of the doors behind it, and door 1 calls `more` states of the last door.
@@ -263,8 +304,8 @@ fn path_edges() {
     gives(search(path(15, &or_of(FULL, 15))), "f0000001");
     refuses(search(path(15, &or_of(FULL, 16))), 9);
     refuses(search(path(0, &or_of(FULL, 16))), 9);
-    gives(search(bytes("40000002 60000000")), "f0000002 e0000001");
-    gives(old_search(W, "40000002 60000000"), "f0000002 e0000001");
+    gives(search(bytes(EMPTY_WORD)), "f0000002 e0000001");
+    gives(old_search(W, EMPTY_WORD), "f0000002 e0000001");
     let waiting = |count| path(0, &[vec![EMPTY; count], vec![THEN; count - 1]].concat());
     gives(search(waiting(16)), "f0000002 e0000001");
     refuses(search(waiting(17)), 9);
@@ -309,12 +350,17 @@ fn question(whole: &str, cuts: &[u8], sites: u32, path: &str) -> (Vec<u32>, Vec<
     (accepted(Call::Join { bundle: bytes_of(&seconds.concat()) }), firsts)
 }
 
+/// The old search and the question over each of these cuts give this list of a plant of three nodes.
+fn lists(whole: &str, path: &str, list: &str) {
+    gives(old_search(whole, path), list);
+    for cuts in [[0, 0, 0], [0, 1, 0], [0, 1, 2], [1, 0, 0]] {
+        assert_eq!(question(whole, &cuts, 3, path).0, words(list), "{whole} {cuts:?} {path}");
+    }
+}
+
 #[test]
 fn visited_nodes_have_states() {
-    gives(old_search(W, Q), "f0000002 e0000002");
-    for cuts in [[0, 0, 0], [0, 1, 0], [0, 1, 2], [1, 0, 0]] {
-        assert_eq!(question(W, &cuts, 3, Q).0, words("f0000002 e0000002"));
-    }
+    lists(W, Q, "f0000002 e0000002");
 }
 
 #[test]
@@ -327,17 +373,55 @@ fn walks_resume_at_doors() {
 #[test]
 fn walks_go_on_through_doors() {
     let whole = "10000006 20030001 30050003 20000002 20000003 30060002";
-    let path = "40200004 50005005 50006006 60000001";
     let part = "10000005 20030001 30050003 20010003 30060002";
-    gives(first_reply(part, path), "70200007 80010001 90000000 a0000022 80000003 90000001 a0000022");
-    assert_eq!(question(whole, &[0, 1, 0], 2, path).0, words("f0000002 e0000002"));
+    gives(first_reply(part, TWO_LABELS), "70200007 80010001 90000000 a0000022 80000003 90000001 a0000022");
+    assert_eq!(question(whole, &[0, 1, 0], 2, TWO_LABELS).0, words("f0000002 e0000002"));
 }
 
 #[test]
 fn a_star_needs_no_turn() {
     let whole = "10000006 20030001 30050002 20000002 30060003 20000003";
-    gives(old_search(whole, P), "f0000002 e0000002");
-    for cuts in [[0, 0, 0], [0, 1, 0], [0, 1, 2]] {
-        assert_eq!(question(whole, &cuts, 3, P).0, words("f0000002 e0000002"));
+    lists(whole, P, "f0000002 e0000002");
+}
+
+#[test]
+fn a_stopped_node_is_neither_passed_nor_listed() {
+    for (path, list) in [(Q, "f0000002 e0000002"), (TWO_LABELS, "f0000002 e0000003")] {
+        lists(W, path, list);
+        lists(STOPPED, path, "f0000001");
     }
+}
+
+#[test]
+fn a_stopped_root_lists_nothing() {
+    gives(old_search("10000002 20070001", EMPTY_WORD), "f0000001");
+    for path in [P, Q, EMPTY_WORD] {
+        lists(ROOT_STOPPED, path, "f0000001");
+    }
+}
+
+#[test]
+fn a_stopped_door_that_is_called_answers_nothing() {
+    gives(second_reply("10000002 20010001", EMPTY_WORD, "b0000002 c0000010"), "d0000002 e0000001");
+    gives(second_reply("10000002 20050001", EMPTY_WORD, "b0000002 c0000010"), "d0000001");
+    refuses(second_reply("10000002 20040001", EMPTY_WORD, "b0000002 c0000010"), 14);
+}
+
+#[test]
+fn links_of_stopped_nodes_make_doors() {
+    gives(cut(STOPPED, &[1, 1, 0], 1), "11000005 20030001 30050002 20010002 30060003");
+    gives(cut(STOPPED, &[1, 1, 0], 0), "10000003 20050003 30050002");
+}
+
+#[test]
+fn checks_of_stopped_nodes() {
+    for bit in 19..28 {
+        let part = format!("10000002 {:08x}", 0x2003_0001 | 1 << bit);
+        over_a_part(&part).into_iter().for_each(|call| refuses(call, 5));
+    }
+    over_a_part("10000002 20080001").into_iter().for_each(|call| refuses(call, 5));
+    over_a_part("10000002 20060001").into_iter().for_each(|call| refuses(call, 7));
+    over_a_part("10000003 20040002 20000002").into_iter().for_each(|call| refuses(call, 6));
+    refuses(old_search("10000003 20070001 30050002", P), 8);
+    refuses(cut("10000003 20070001 30050002", &[0], 0), 8);
 }

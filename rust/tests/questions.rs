@@ -1,11 +1,13 @@
 //! Demand 3: whole questions over random plants, true cuts, paths and orders, run by the library and held to the evaluation.
 
 use mowqachi_tests::beside::Call;
-use mowqachi_tests::evaluation::part::{Node, Part};
+use mowqachi_tests::evaluation::part::Part;
 use mowqachi_tests::evaluation::path::{read_path, Path};
+use mowqachi_tests::evaluation::plant::Plant;
 use mowqachi_tests::evaluation::replies::Pair;
 use mowqachi_tests::evaluation::states::States;
 use mowqachi_tests::evaluation::words::*;
+use mowqachi_tests::generate::plant::node;
 use mowqachi_tests::generate::question::{question, Question};
 use mowqachi_tests::random::{cases, seed, Naming, Random};
 use std::collections::{BTreeMap, BTreeSet};
@@ -20,6 +22,14 @@ const ENDS: [&str; 8] = [
     "call list over its limit",
     "first bundle over its limit",
     "second bundle over its limit",
+];
+
+/// Stopped nodes whose bit a search might ignore, and what its list would then have besides: these nodes, or running ones behind them. Each
+/// must have been met, so that such a search fails.
+const IGNORED: [[&str; 2]; 3] = [
+    ["stopped root listed", "stopped root left"],
+    ["stopped door called and listed", "stopped door called and left"],
+    ["stopped node inside a part listed", "stopped node inside a part left"],
 ];
 
 /// The library's number and words, held to the evaluation's.
@@ -42,7 +52,8 @@ fn check_traffic(part: &Part, n: usize, reply: &[u32]) {
     assert!(reach <= bound, "{reach} reach words, bound {bound}");
 }
 
-/// The pairs in which walks of the plant from its root cross between parts, and the root with 0.
+/// The root with 0, and the pairs in which walks of the plant from its root cross between parts: into stopped nodes too, of which the part
+/// before cannot know, but from there no further.
 fn crossings(question: &Question, path: &Path) -> BTreeSet<Pair> {
     let states = States::of(path);
     let sites: BTreeMap<u32, u32> = question
@@ -54,6 +65,9 @@ fn crossings(question: &Question, path: &Path) -> BTreeSet<Pair> {
     let (mut seen, mut calls) = (BTreeSet::from([root]), BTreeSet::from([root]));
     let mut waiting = vec![root];
     while let Some((node, q)) = waiting.pop() {
+        if question.plant.stopped.contains(&node) {
+            continue;
+        }
         for (label, target) in &question.plant.nodes[&node] {
             for p in states.after(path, q, *label) {
                 let pair = (*target, p);
@@ -122,11 +136,8 @@ fn second_trip(random: &mut Random, question: &Question, calls: &[u32]) -> Vec<V
 
 /// The plant as one file, if it fits.
 fn one_file(question: &Question) -> Option<Vec<u32>> {
-    let node = |(number, links): (&u32, &BTreeSet<(u32, u32)>)| {
-        let root = *number == question.plant.root;
-        Node { number: *number, door: root, root, edges: links.iter().copied().collect() }
-    };
-    let whole = Part { site: 0, nodes: question.plant.nodes.iter().map(node).collect() };
+    let nodes = question.plant.nodes.keys().map(|number| node(&question.plant, *number, false));
+    let whole = Part { site: 0, nodes: nodes.collect() };
     Some(whole.words()).filter(|words| words.len() <= FILE_LIMIT)
 }
 
@@ -142,8 +153,35 @@ fn check_list(random: &mut Random, question: &Question, path: &Path, list: &[u32
     }
 }
 
-/// Runs one question to its end.
-fn ask(random: &mut Random, question: &Question) -> Result<&'static str, &'static str> {
+/// What of `IGNORED` the question holds. The hub calls stopped doors like others.
+fn ignored(plant: &Plant, path: &Path, calls: &[u32], list: &[u32]) -> Vec<&'static str> {
+    let called: BTreeSet<u32> = calls[1..].iter().map(|call| bits(*call, 19, 4)).collect();
+    let place = |node: &u32| match node {
+        _ if *node == plant.root => 0,
+        _ if called.contains(node) => 1,
+        _ => 2,
+    };
+    let mut found = vec![];
+    for (at, names) in IGNORED.iter().enumerate() {
+        let (some, stopped): (BTreeSet<u32>, _) = plant.stopped.iter().partition(|node| place(node) == at);
+        if some.is_empty() {
+            continue;
+        }
+        let more = Plant { stopped, ..plant.clone() }.search(path);
+        let besides = more[1..].iter().filter(|answer| list[1..].binary_search(answer).is_err());
+        let besides: BTreeSet<u32> = besides.map(|answer| bits(*answer, 15, 0)).collect();
+        found.extend((!besides.is_disjoint(&some)).then_some(names[0]));
+        found.extend((!besides.is_subset(&some)).then_some(names[1]));
+    }
+    found
+}
+
+/// Runs one question to its end, and notes what of `IGNORED` it holds.
+fn ask(
+    random: &mut Random,
+    question: &Question,
+    noted: &mut Vec<&'static str>,
+) -> Result<&'static str, &'static str> {
     let path = read_path(&bytes_of(&question.path)).expect("paths are made right");
     let firsts = first_trip(random, question, &path)?;
     let calls = call_list(random, question, &path, &firsts)?;
@@ -155,7 +193,9 @@ fn ask(random: &mut Random, question: &Question) -> Result<&'static str, &'stati
         assert_eq!(joined.expect_err("the bundle is too long").number, 2);
         return Err("second bundle over its limit");
     }
-    check_list(random, question, &path, &joined.expect("honest replies join"), &seconds);
+    let list = joined.expect("honest replies join");
+    check_list(random, question, &path, &list, &seconds);
+    noted.extend(ignored(&question.plant, &path, &calls, &list));
     let crossed: BTreeSet<u32> = question.parts.iter().flat_map(Part::outside_targets).collect();
     let further = |part: &Part| part.doors().any(|door| !door.root && !crossed.contains(&door.number));
     Ok(match () {
@@ -166,22 +206,25 @@ fn ask(random: &mut Random, question: &Question) -> Result<&'static str, &'stati
     })
 }
 
-/// Makes this share of the cases, and goes on for a while if some end has not been met.
+/// Makes this share of the cases, and goes on for a while if something has not been met.
 fn run(stream: &'static str) {
-    let mut seen: BTreeMap<&str, u64> = ENDS.iter().map(|end| (*end, 0)).collect();
+    let mut seen: BTreeMap<&str, u64> =
+        ENDS.iter().chain(IGNORED.iter().flatten()).map(|what| (*what, 0)).collect();
     let wanted = cases() * 9 / 100;
     let mut made = 0;
     while made < wanted || made < wanted + 20_000 && seen.values().any(|count| *count == 0) {
         let _naming = Naming(stream, made);
         let mut random = Random::new(seed(), stream, made);
         let question = question(&mut random);
-        let end = ask(&mut random, &question).unwrap_or_else(|end| end);
-        *seen.get_mut(end).expect("one of the ends") += 1;
+        let mut met = vec![];
+        let end = ask(&mut random, &question, &mut met).unwrap_or_else(|end| end);
+        met.push(end);
+        met.into_iter().for_each(|what| *seen.get_mut(what).expect("one of these") += 1);
         made += 1;
     }
-    seen.iter().for_each(|(end, count)| println!("{stream} {count:7} {end}"));
+    seen.iter().for_each(|(what, count)| println!("{stream} {count:7} {what}"));
     println!("{stream} {made:7} cases");
-    assert!(seen.values().all(|count| *count > 0), "some end was never met");
+    assert!(seen.values().all(|count| *count > 0), "something was never met");
 }
 
 // Two tests, so that two cores share them.

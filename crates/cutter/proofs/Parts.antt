@@ -3,20 +3,20 @@
 use mathlib.Core.Path.{_≡_, refl, sym, _∙_, ap, subst}
 use mathlib.Core.Logic.{_↔_, inr}
 use mathlib.Core.Bool.{Bool, not, _&&_}
-use mathlib.Core.List.{List, map}
+use mathlib.Core.List.{List}
 use Prim.Native.Nat.{ℕ, _*_, _^_, _≤_, _<_}
 use native.Mathlib.Omega.{arith}
 use lib.Dec.{T, eqb, leb, leb→le, eqb→eq}
 use lib.ListN.{length, drop}
 use borrow.Author.Tests.{ne-eqb, eq-eqb}
-use Rattle.sets.specs.Sets.{Mem, filter}
+use Rattle.sets.specs.Sets.{Mem}
 use Rattle.sets.proofs.Lengths.{ascending-distinct}
 use Rattle.sets.proofs.Tests.{is-true, or-iff}
 use Rattle.sets.proofs.Filter.{any-iff, all-iff}
 use Rattle.files.specs.Word.{bytesOf}
 use Rattle.files.specs.Outcome.{accepted, outcome}
-use Rattle.files.specs.Field.{nodeOf, rootOf, doorOf, targetOf, kindOf}
-use Rattle.files.specs.Part.{isNode, partCheck, wholeCheck, nodes, roots, doors, edges}
+use Rattle.files.specs.Field.{rootOf, doorOf, stoppedOf, targetOf, kindOf}
+use Rattle.files.specs.Part.{isNode, partCheck, wholeCheck, nodes, nodesWith, roots, doors, stopped, edges}
 use Rattle.files.proofs.Checks.{checks, then-zero, room-checked, outcome-gives}
 use Rattle.files.proofs.Words.{words-bytes, size-checked}
 use Rattle.files.proofs.Fields.{Node}
@@ -46,7 +46,7 @@ module _ (f cuts : List ℕ) (p : partCheck f ≡ 0) (c : Fit (drop 1 f) cuts) (
   part = drop 1 (cut f cuts s)
 
   -- the fields of a block's word in the part
-  fields : (a : Block) → Mem (a, s) all → Node (number a) (crossed (elsewhere f cuts s) (a .word)) (rootOf (a .word)) (remarked (elsewhere f cuts s) (a .word))
+  fields : (a : Block) → Mem (a, s) all → Node (number a) (crossed (elsewhere f cuts s) (a .word)) (rootOf (a .word)) (stoppedOf (a .word)) (remarked (elsewhere f cuts s) (a .word))
   fields a m = remarked-node (elsewhere f cuts s) (a .word) (is-true _ (block-node a (drop 1 f) (sited-block (drop 1 f) cuts c m) .1))
 
   pub cut-nodes : (x : ℕ) → Mem x (nodes part) ↔ ((a : Block) × Mem (a, s) all × (number a ≡ x))
@@ -62,7 +62,7 @@ module _ (f cuts : List ℕ) (p : partCheck f ≡ 0) (c : Fit (drop 1 f) cuts) (
 
   -- the nodes that the part marks, where its test t of a word is the test u of the whole's word
   marked : (t u : ℕ → Bool) → ((a : Block) → Mem (a, s) all → t (remarked (elsewhere f cuts s) (a .word)) ≡ u (a .word))
-      → (x : ℕ) → Mem x (map nodeOf (filter (λ w. isNode w && t w) part)) ↔ ((a : Block) × Mem (a, s) all × T (u (a .word)) × (number a ≡ x))
+      → (x : ℕ) → Mem x (nodesWith t part) ↔ ((a : Block) × Mem (a, s) all × T (u (a .word)) × (number a ≡ x))
   marked t u same x = (
     λ m.
         let (b, k, r, q) = marked-iff t x part .0 m in
@@ -75,6 +75,9 @@ module _ (f cuts : List ℕ) (p : partCheck f ≡ 0) (c : Fit (drop 1 f) cuts) (
 
   pub cut-roots : (x : ℕ) → Mem x (roots part) ↔ ((a : Block) × Mem (a, s) all × T (rootOf (a .word)) × (number a ≡ x))
   cut-roots = marked rootOf rootOf (λ a m. fields a m .root-is)
+
+  pub cut-stopped : (x : ℕ) → Mem x (stopped part) ↔ ((a : Block) × Mem (a, s) all × T (stoppedOf (a .word)) × (number a ≡ x))
+  cut-stopped = marked stoppedOf stoppedOf (λ a m. fields a m .stopped-is)
 
   cut-doors : (x : ℕ) → Mem x (doors part) ↔ ((a : Block) × Mem (a, s) all × T (crossed (elsewhere f cuts s) (a .word)) × (number a ≡ x))
   cut-doors = marked doorOf (crossed (elsewhere f cuts s)) (λ a m. fields a m .door-is)

@@ -5,6 +5,7 @@ use files::cursor::Cursor;
 use files::cursor::Step;
 use files::field::node;
 use files::field::root;
+use files::field::stopped;
 use files::field::target;
 use files::part::is_node;
 use files::refuse::check_room;
@@ -115,21 +116,21 @@ fn flag(b: bool, value: u32) -> u32
     if b { value } else { 0 }
 }
 
-fn make_node(x: u32, door: bool, root: bool) -> u32
+fn make_node(x: u32, door: bool, root: bool, stopped: bool) -> u32
     requires { ⌜ x < 65536 ⌝ }
-    ensures { λ r. ⌜ r ≡ nodeWord x door root ⌝ }
+    ensures { λ r. ⌜ r ≡ nodeWord x door root stopped ⌝ }
 {
-    0x2000_0000 + (flag(root, 0x2_0000) + flag(door, 0x1_0000) + x)
+    0x2000_0000 + (flag(stopped, 0x4_0000) + flag(root, 0x2_0000) + flag(door, 0x1_0000) + x)
 }
 
-// A node's word with the door bit by the set, an edge word as it is.
+// A node's word with the door bit by the set and its other bits, an edge word as it is.
 fn mark(doors: &[u8], w: u32) -> u32
     requires { ⌜ 8192 ≤ length (now doors) ⌝ }
     ensures { λ r. ⌜ r ≡ marked (hasNode (now (doors .entry)) 0) w ⌝ }
 {
     if is_node(w) {
         let x = node(w);
-        return make_node(x, root(w) | has(doors, 0, x), root(w));
+        return make_node(x, root(w) | has(doors, 0, x), root(w), stopped(w));
     }
     w
 }

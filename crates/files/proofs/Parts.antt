@@ -28,7 +28,7 @@ ruleset tested = (then-iff, unless-iff, and-iff, implies-iff, not-iff)
 
 -- what is known of a node word and of another word that is accepted after others, and what is seen then
 pub record NodeWord (st : Seen) (w : ℕ) : Type 0 where
-  pub zeros : bits 27 18 w ≡ 0
+  pub zeros : bits 27 19 w ≡ 0
   pub above : st .low ≤ nodeOf w
   pub root : T (rootOf w) → T (doorOf w) × (T (st .rooted) → ⊥)
 
@@ -41,8 +41,8 @@ pub node-iff : (st : Seen) (w : ℕ) → isNode w ≡ true → (wordCheck st w �
 node-iff st w n = rw n (
   λ c.
       let h = simp tested at c in
-      record { zeros = eq-iff (bits 27 18 w) 0 .0 (h .0); above = le-iff (st .low) (nodeOf w) .0 (h .1 .0); root = h .1 .1 },
-  λ h. simp tested (eq-iff (bits 27 18 w) 0 .1 (h .zeros), (le-iff (st .low) (nodeOf w) .1 (h .above), h .root)),
+      record { zeros = eq-iff (bits 27 19 w) 0 .0 (h .0); above = le-iff (st .low) (nodeOf w) .0 (h .1 .0); root = h .1 .1 },
+  λ h. simp tested (eq-iff (bits 27 19 w) 0 .1 (h .zeros), (le-iff (st .low) (nodeOf w) .1 (h .above), h .root)),
 )
 
 pub edge-iff : (st : Seen) (w : ℕ) → isNode w ≡ false → (wordCheck st w ≡ 0) ↔ EdgeWord st w

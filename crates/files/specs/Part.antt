@@ -4,10 +4,9 @@ use Prim.Native.Nat.{ℕ, suc}
 use mathlib.Core.Bool.{Bool, true, false, cond, not, _&&_, _||_}
 use mathlib.Core.List.{List, [], _∷_, map}
 use lib.Dec.{eqb, leb, ltb}
-use lib.ListN.{length}
-use Rattle.sets.specs.Sets.{setOf, filter, member, any}
+use Rattle.sets.specs.Sets.{setOf, filter, minus, member, any}
 use Rattle.files.specs.declared.part.Seen.{Seen}
-use Rattle.files.specs.Field.{bits, kindOf, nodeOf, doorOf, rootOf, targetOf}
+use Rattle.files.specs.Field.{bits, kindOf, nodeOf, doorOf, rootOf, stoppedOf, targetOf}
 use Rattle.files.specs.Refuse.{_then_, _unless_, fileCheck}
 use Rattle.files.specs.Scan.{scanWords}
 
@@ -23,6 +22,9 @@ isRoot w = isNode w && rootOf w
 abbrev pub isDoor : ℕ → Bool
 isDoor w = isNode w && doorOf w
 
+abbrev pub isStopped : ℕ → Bool
+isStopped w = isNode w && stoppedOf w
+
 -- What the words so far say of the next, as the code keeps it (`Seen`): the word before it, the least number of a next node (0: no node
 -- yet), whether there was a root.
 
@@ -36,7 +38,7 @@ next st w =
 
 abbrev pub nodeCheck : Seen → ℕ → ℕ
 nodeCheck st w =
-    5 unless eqb (bits 27 18 w) 0
+    5 unless eqb (bits 27 19 w) 0
     then 6 unless leb (st .low) (nodeOf w)
     then 7 unless (not (rootOf w) || (doorOf w && not (st .rooted)))
 
@@ -57,11 +59,22 @@ partCheck ws = fileCheck 1 true false (λ h ws. scan start ws) ws
 abbrev pub nodes : List ℕ → List ℕ
 nodes ws = map nodeOf (filter isNode ws)
 
+-- those whose words have a mark: root, door, stopped
+abbrev pub nodesWith : (ℕ → Bool) → List ℕ → List ℕ
+nodesWith mark ws = map nodeOf (filter (λ w. isNode w && mark w) ws)
+
 abbrev pub roots : List ℕ → List ℕ
-roots ws = map nodeOf (filter isRoot ws)
+roots ws = nodesWith rootOf ws
 
 abbrev pub doors : List ℕ → List ℕ
-doors ws = map nodeOf (filter isDoor ws)
+doors ws = nodesWith doorOf ws
+
+abbrev pub stopped : List ℕ → List ℕ
+stopped ws = nodesWith stoppedOf ws
+
+-- the nodes that are not stopped
+abbrev pub running : List ℕ → List ℕ
+running ws = minus (nodes ws) (stopped ws)
 
 -- an edge whose target is not among the nodes
 abbrev pub lost : (ℕ → Bool) → ℕ → Bool

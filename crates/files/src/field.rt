@@ -1,6 +1,6 @@
 // The fields of a word.
 ghost use mathlib.Core.Path.{_≡_};
-ghost use Rattle.files.specs.Field.{kindOf, siteOf, labelsOf, sizeOf, nodeOf, doorOf, rootOf, labelOf, targetOf, stateOf};
+ghost use Rattle.files.specs.Field.{kindOf, siteOf, labelsOf, sizeOf, nodeOf, doorOf, rootOf, stoppedOf, labelOf, targetOf, stateOf};
 
 pub fn kind(w: u32) -> u32
     ensures { λ r. ⌜ r ≡ kindOf w ⌝ }
@@ -43,6 +43,12 @@ pub fn root(w: u32) -> bool
     ensures { λ r. ⌜ r ≡ rootOf w ⌝ }
 {
     w / 0x2_0000 % 2 == 1
+}
+
+pub fn stopped(w: u32) -> bool
+    ensures { λ r. ⌜ r ≡ stoppedOf w ⌝ }
+{
+    w / 0x4_0000 % 2 == 1
 }
 
 pub fn label(w: u32) -> u32

@@ -1,7 +1,7 @@
 -- The answers that are written are those that the definitions ask for. Assumes nothing.
 use mathlib.Core.Path.{_≡_, refl, sym, _∙_, ap, subst}
-use mathlib.Core.Logic.{_↔_, inl, Iff·rfl}
-use mathlib.Core.Bool.{Bool, true, false, not}
+use mathlib.Core.Logic.{_↔_, inl, ⊎-elim, Iff·rfl}
+use mathlib.Core.Bool.{Bool, true, false, not, _&&_}
 use mathlib.Core.List.{List, [], _∷_, map, map-map, Memᴰ·map, Memᴰ·of-map}
 use Prim.Native.Nat.{ℕ, _+_, _%_, _^_, _<_}
 use native.Mathlib.Omega.{arith}
@@ -14,7 +14,7 @@ use borrow.Author.Tests.{eq-eqb, ne-eqb}
 use lib.ListN.{length, getD, drop}
 use Rattle.sets.specs.Sets.{Mem, Lists}
 use Rattle.sets.proofs.Tests.{passed, is-true}
-use Rattle.sets.proofs.Cases.{and-left, and-right, and-intro, clash}
+use Rattle.sets.proofs.Cases.{and-left, and-right, and-intro, not-elim, bool-cases, clash}
 use Rattle.sets.specs.Reach.{Reach}
 use Rattle.sets.specs.States.{hasState, members}
 use Rattle.sets.proofs.Members.{members-in, in-members}
@@ -22,8 +22,9 @@ use Rattle.sets.proofs.Sets.{map-ascending, lists-unique}
 use Rattle.sets.proofs.Filter.{map-append}
 use Rattle.sets.proofs.StateSets.{has-and, has-empty, lowest-is}
 use Rattle.files.specs.Field.{answerWord, pair}
-use Rattle.files.specs.Part.{nodes}
+use Rattle.files.specs.Part.{running}
 use Rattle.files.proofs.Fields.{node-below}
+use Rattle.files.proofs.Blocks.{running-iff}
 use Rattle.output.specs.Writer.{Writes}
 use Rattle.output.proofs.Writing.{Adding, adding-none, adding-more, writes-none}
 use Rattle.output.proofs.Ranges.{members-more}
@@ -31,11 +32,11 @@ use Rattle.output.proofs.Ranges.{members-ascending}
 use Rattle.expressions.specs.Expr.{Expr, count}
 use Rattle.expressions.specs.Positions.{accepts}
 use Rattle.walks.specs.Product.{stepIn, answers}
-use Rattle.slots.specs.Slots.{nodeAt, number, reachedOf, isReached, Laid}
+use Rattle.slots.specs.Slots.{nodeAt, stoppedAt, number, reachedOf, isReached, Laid}
 use Rattle.walks.specs.Search.{Follow, Masked, Marks, Searched}
 use Rattle.walks.proofs.Product.{accepts-small, answers-lists}
 use Rattle.walks.proofs.Seeding.{marks-sought}
-use Rattle.slots.proofs.Places.{node-in, in-node, node-below as node-within, nodes-rise, nodes-same, rising}
+use Rattle.slots.proofs.Places.{node-in, in-node, node-below as node-within, nodes-rise, nodes-same, rising, stopped-iff}
 use Rattle.listing.specs.Listing.{lands, answerHere, answerWords}
 
 -- a node's number is below 2 ^ 16, whatever the word
@@ -75,13 +76,15 @@ pub number-below : (ws : List ℕ) (i : ℕ) → number ws i < 2 ^ 16
 unfolding number
 number-below ws i = node-below (getD ws i 0)
 
-lands-node : (ws w : List ℕ) (a i : ℕ) → lands ws w a i ≡ true → nodeAt ws i ≡ true
+lands-running : (ws w : List ℕ) (a i : ℕ) → lands ws w a i ≡ true → (nodeAt ws i ≡ true) × (stoppedAt ws i ≡ false)
 unfolding lands
-lands-node ws w a i e = and-left (nodeAt ws i) (not (eqb (bitAnd (reachedOf w i) a) 0)) e
+lands-running ws w a i e =
+    let r = and-left (nodeAt ws i && not (stoppedAt ws i)) (not (eqb (bitAnd (reachedOf w i) a) 0)) e in
+    (and-left (nodeAt ws i) (not (stoppedAt ws i)) r, not-elim (stoppedAt ws i) (and-right (nodeAt ws i) (not (stoppedAt ws i)) r))
 
-lands-some : (ws w : List ℕ) (a i : ℕ) → nodeAt ws i ≡ true → lands ws w a i ≡ true ↔ (bitAnd (reachedOf w i) a ≡ 0 → ⊥)
+lands-some : (ws w : List ℕ) (a i : ℕ) → nodeAt ws i ≡ true → stoppedAt ws i ≡ false → lands ws w a i ≡ true ↔ (bitAnd (reachedOf w i) a ≡ 0 → ⊥)
 unfolding lands
-lands-some ws w a i n = rw n (
+lands-some ws w a i n r = rw (n, r) (
   λ e k. clash (rw (eq-eqb (bitAnd (reachedOf w i) a) 0 k) at e) refl,
   λ k. rw (ne-eqb (bitAnd (reachedOf w i) a) 0 k),
 )
@@ -93,9 +96,9 @@ module _ (ws : List ℕ) (t : ℕ) (follow w w′ : List ℕ) (s : Searched ws t
   abbrev Hit : ℕ → Type 0
   Hit x = (q : ℕ) × Reach (stepIn (drop 1 ws) e) cs (pair x q) × T (accepts e q)
 
-  -- a node lands just if it is reached in an accepting state
-  lands-iff : (i : ℕ) → nodeAt ws i ≡ true → lands ws w′ accept i ≡ true ↔ Hit (number ws i)
-  lands-iff i n = (λ l. to (lands-some ws w′ accept i n .0 l), λ h. lands-some ws w′ accept i n .1 (from h))
+  -- a running node lands just if it is reached in an accepting state
+  lands-iff : (i : ℕ) → nodeAt ws i ≡ true → stoppedAt ws i ≡ false → lands ws w′ accept i ≡ true ↔ Hit (number ws i)
+  lands-iff i n r = (λ l. to (lands-some ws w′ accept i n r .0 l), λ h. lands-some ws w′ accept i n r .1 (from h))
     where
       both : ℕ
       both = bitAnd (reachedOf w′ i) accept
@@ -122,19 +125,29 @@ module _ (ws : List ℕ) (t : ℕ) (follow w w′ : List ℕ) (s : Searched ws t
   landed : (i : ℕ) → Mem i positions → lands ws w′ accept i ≡ true
   landed i m = in-members (lands ws w′ accept) 0 (length ws) i m .2
 
-  listed : Lists (λ x. Mem x (nodes (drop 1 ws)) × Hit x) (map (number ws) positions)
+  -- a node is running just if its word is not marked as stopped
+  runs-iff : (i : ℕ) → nodeAt ws i ≡ true → Mem (number ws i) (running (drop 1 ws)) ↔ (stoppedAt ws i ≡ false)
+  runs-iff i n =
+      let r = running-iff (drop 1 ws) (number ws i) in
+      let s = stopped-iff ws (laid .accepted) i n in (
+        λ m. ⊎-elim (λ b. absurd (r .0 m .1 (s .1 b))) (λ b. b) (bool-cases (stoppedAt ws i)),
+        λ b. r .1 (rw (nodes-same ws (laid .accepted)) (node-in ws i n), λ k. clash (s .0 k) b),
+      )
+
+  listed : Lists (λ x. Mem x (running (drop 1 ws)) × Hit x) (map (number ws) positions)
   listed = record {
     ascending = map-ascending (number ws) positions
-        (λ i j m k. nodes-rise ws i j (rising ws (laid .accepted)) (lands-node ws w′ accept i (landed i m)) (lands-node ws w′ accept j (landed j k)))
+        (λ i j m k. nodes-rise ws i j (rising ws (laid .accepted)) (lands-running ws w′ accept i (landed i m) .0) (lands-running ws w′ accept j (landed j k) .0))
         (members-ascending (lands ws w′ accept) 0 (length ws));
     sound = λ x m.
         let (i, k, q) = Memᴰ·of-map (number ws) positions m in
-        let n = lands-node ws w′ accept i (landed i k) in
-        subst (λ y. Mem y (nodes (drop 1 ws)) × Hit y) q (rw (nodes-same ws (laid .accepted)) (node-in ws i n), lands-iff i n .0 (landed i k));
+        let (n, r) = lands-running ws w′ accept i (landed i k) in
+        subst (λ y. Mem y (running (drop 1 ws)) × Hit y) q (runs-iff i n .1 r, lands-iff i n r .0 (landed i k));
     complete = λ x (m, h).
-        let (i, n, q) = in-node ws x (rw (nodes-same ws (laid .accepted)) at m) in
+        let (i, n, q) = in-node ws x (rw (nodes-same ws (laid .accepted)) at (running-iff (drop 1 ws) x .0 m .0)) in
+        let r = runs-iff i n .0 (subst (λ y. Mem y (running (drop 1 ws))) (sym q) m) in
         subst (λ y. Mem y (map (number ws) positions)) q (Memᴰ·map (number ws)
-        (members-in (lands ws w′ accept) 0 (length ws) i (omega arith) (omega (arith, node-within ws i n)) (lands-iff i n .1 (subst Hit (sym q) h))));
+        (members-in (lands ws w′ accept) 0 (length ws) i (omega arith) (omega (arith, node-within ws i n)) (lands-iff i n r .1 (subst Hit (sym q) h))));
   }
 
   marked-below : (c : ℕ) → Mem c cs → c < 2 ^ 20

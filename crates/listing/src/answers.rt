@@ -10,13 +10,14 @@ ghost use Rattle.listing.specs.Listing.{lands, answerHere, answerWords};
 use crate::tables::states_at;
 use output::writer::push;
 use slots::position::is_node;
+use slots::position::is_stopped;
 use slots::position::number_at;
 
 fn landed(part: &[u8], work: &[u8], accepts: u16, i: usize) -> bool
     requires { ⌜ (i < 4096) × (32768 ≤ length (now work)) ⌝ }
     ensures { λ r. ⌜ r ≡ lands (words (now (part .entry))) (now (work .entry)) accepts i ⌝ }
 {
-    is_node(part, i) & !((states_at(work, i) & accepts) == 0)
+    is_node(part, i) & !is_stopped(part, i) & !((states_at(work, i) & accepts) == 0)
 }
 
 fn answer_at(part: &[u8], i: usize) -> u32

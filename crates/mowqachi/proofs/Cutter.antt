@@ -1,6 +1,8 @@
 -- The cutter makes true cuts: from an accepted whole file and an accepted cut list, the parts for the sites that the cut list names, ascending,
 -- are a true cut of the file's plant. And a true cut has one to sixteen parts. Assumes nothing.
 use mathlib.Core.Path.{_≡_, sym, _∙_, ap, subst}
+use mathlib.Core.Bool.{Bool}
+use mathlib.Core.Logic.{_↔_}
 use mathlib.Core.List.{List, map, map-map, Memᴰ·map, Memᴰ·of-map}
 use Prim.Native.Nat.{ℕ, _≤_, _<_}
 use native.Mathlib.Omega.{arith}
@@ -10,8 +12,8 @@ use Rattle.sets.specs.Sets.{Mem, here, there, Distinct, setOf}
 use Rattle.sets.proofs.Sets.{setOf-lists}
 use Rattle.sets.proofs.Filter.{map-fixed}
 use Rattle.sets.proofs.Lengths.{ascending-distinct, pigeonhole-below}
-use Rattle.files.specs.Field.{siteOf, rootOf}
-use Rattle.files.specs.Part.{partCheck, wholeCheck, nodes, doors, edges}
+use Rattle.files.specs.Field.{siteOf, rootOf, stoppedOf}
+use Rattle.files.specs.Part.{partCheck, wholeCheck, nodes, nodesWith, doors, edges}
 use Rattle.files.proofs.Fields.{site-below}
 use Rattle.files.proofs.Blocks.{Block, number, blocks, nodes-iff, marked-iff, edges-block, block-edges}
 use Rattle.files.proofs.Parts.{whole-part, nodes-ascending}
@@ -19,7 +21,7 @@ use Rattle.files.specs.Cuts.{cutCheck}
 use Rattle.cutter.specs.Cut.{cut}
 use Rattle.cutter.proofs.Sited.{Fit, sited, site-known, sited-block, block-sited, sited-once}
 use Rattle.cutter.proofs.Cutter.{cut-accepted, cut-length, cut-site, cut-words}
-use Rattle.cutter.proofs.Parts.{cuts-fit, cut-nodes, cut-roots, cut-edges, cut-crossed}
+use Rattle.cutter.proofs.Parts.{cuts-fit, cut-nodes, cut-roots, cut-stopped, cut-edges, cut-crossed}
 use Rattle.mowqachi.specs.Plant.{Plant, OneRoot, TrueCut, Holds, HasEdge, AcceptedPart, Words, body}
 use Rattle.mowqachi.specs.PlantOf.{plantOf, partsOf}
 
@@ -62,6 +64,18 @@ module _ (f cuts : List ℕ) (whole : wholeCheck f ≡ 0) (site : ℕ) (listed :
       let (t, m) = block-sited (body f) cuts c b l in
       ap (λ p. p .0) (sited-once (body f) cuts c distinct m k (sym e))
 
+  -- a mark that the cutter keeps is on just those nodes of the part that have it in the file
+  module _ (s : ℕ) (h : s < 16) (mark : ℕ → Bool)
+      (kept : (x : ℕ) → Mem x (nodesWith mark (body (cut f cuts s))) ↔ ((a : Block) × Mem (a, s) all × T (mark (a .word)) × (number a ≡ x))) where
+    has-mark : (x : ℕ) → Mem x (nodes (body (cut f cuts s))) → Mem x (nodesWith mark (body f)) → Mem x (nodesWith mark (body (cut f cuts s)))
+    has-mark x m r =
+        let (a, k, q) = cut-nodes f cuts p c s h x .0 m in
+        let (b, j, t, n) = marked-iff mark x (body f) .0 r in
+        kept x .1 (a, k, subst (λ (b : Block). T (mark (b .word))) (same k j (q ∙ sym n)) t, q)
+
+    is-mark : (x : ℕ) → Mem x (nodesWith mark (body (cut f cuts s))) → Mem x (nodesWith mark (body f))
+    is-mark x m = let (a, k, t, q) = kept x .0 m in marked-iff mark x (body f) .1 (a, sited-block (body f) cuts c k, t, q)
+
   part-holds : (s : ℕ) → s < 16 → Holds (plantOf f) (cut f cuts s)
   part-holds s h = record {
     is-node = λ x m. let (a, k, q) = cut-nodes f cuts p c s h x .0 m in nodes-iff x (body f) .1 (a, sited-block (body f) cuts c k, q);
@@ -74,11 +88,10 @@ module _ (f cuts : List ℕ) (whole : wholeCheck f ≡ 0) (site : ℕ) (listed :
         let (w, i, v, u) = e in
         let (a, k, q, i) = cut-edges f cuts p c s h w x .0 i in
         (w, subst (λ x. Mem w (edges (body f) x)) q (block-edges a w (body f) distinct (sited-block (body f) cuts c k) i), v, u);
-    has-root = λ x m r.
-        let (a, k, q) = cut-nodes f cuts p c s h x .0 m in
-        let (b, j, t, n) = marked-iff rootOf x (body f) .0 r in
-        cut-roots f cuts p c s h x .1 (a, k, subst (λ (b : Block). T (rootOf (b .word))) (same k j (q ∙ sym n)) t, q);
-    is-root = λ x m. let (a, k, t, q) = cut-roots f cuts p c s h x .0 m in marked-iff rootOf x (body f) .1 (a, sited-block (body f) cuts c k, t, q);
+    has-root = has-mark s h rootOf (cut-roots f cuts p c s h);
+    is-root = is-mark s h rootOf (cut-roots f cuts p c s h);
+    has-stopped = has-mark s h stoppedOf (cut-stopped f cuts p c s h);
+    is-stopped = is-mark s h stoppedOf (cut-stopped f cuts p c s h);
   }
 
   -- each node is in a part, and in one alone

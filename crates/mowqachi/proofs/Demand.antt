@@ -28,7 +28,7 @@ use Rattle.old.proofs.OldSearch.{old-call}
 use Rattle.mowqachi.specs.Plant.{Found, FinalList, body}
 use Rattle.mowqachi.specs.Question.{Call, first, calls, second, join, Asking, stopped, going, _>>=_, call, each, Answer, ask}
 use Rattle.mowqachi.specs.Demand.{Demand2, Asked, Put, Right, question, inOrder, First, at-once, later, Owed, Over, NoneOver, SmallBundles, Claim, Demand3}
-use Rattle.mowqachi.proofs.Comes.{comes-node, found-iff}
+use Rattle.mowqachi.proofs.Comes.{found-iff}
 use Rattle.mowqachi.proofs.Cross.{cross-answers}
 use Rattle.mowqachi.proofs.OldSearch.{final-unique, old-final}
 use Rattle.mowqachi.proofs.Accepts.{e, small, firsts, Owes, gathered, Gathered, called-iff, first-call, hub-call, second-call, join-call, join-lists, join-perm, first-sized, list-sized, second-sized, joined-sized, joined-words, answered, seconds}
@@ -54,8 +54,7 @@ module _ (q : Asked) where
   found-is order g x = (
     λ (f, m, k). answers f m .sound x k .1,
     λ k.
-        let (s, c, t) = found-iff (q .plant) (e q) (q .closed) x .0 k in
-        let (f, m, n) = q .cut .every x (comes-node (q .plant) (e q) (q .closed) c) in
+        let (f, m, n) = q .cut .every x (found-iff (q .plant) (e q) x .0 k .0 .0) in
         (f, m, answers f m .complete x (n, k)),
   )
     where

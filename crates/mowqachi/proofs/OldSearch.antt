@@ -1,8 +1,8 @@
 -- Demand 2's list: of a plant that a whole file holds, the old search lists exactly the nodes to which a walk from the root spells a word of the
 -- path. Assumes nothing.
-use mathlib.Core.Path.{_≡_, sym, subst}
+use mathlib.Core.Path.{_≡_, subst}
 use mathlib.Core.Logic.{_↔_}
-use mathlib.Core.List.{List, map, Memᴰ·cast, Memᴰ·map, Memᴰ·of-map}
+use mathlib.Core.List.{List, map, Memᴰ·map, Memᴰ·of-map}
 use Prim.Native.Nat.{ℕ, _^_, _≤_, _<_}
 use native.Mathlib.Omega.{arith}
 use lib.Dec.{T}
@@ -11,10 +11,10 @@ use Rattle.sets.specs.Sets.{Mem, Lists}
 use Rattle.sets.specs.Reach.{Reach, seed, next}
 use Rattle.sets.proofs.Sets.{lists-iff, made-unique}
 use Rattle.files.specs.Field.{file, answerWord, pair}
-use Rattle.files.specs.Part.{nodes, roots, wholeCheck}
+use Rattle.files.specs.Part.{nodes, roots, running, wholeCheck}
 use Rattle.files.specs.Path.{pathCheck}
 use Rattle.files.proofs.Blocks.{roots-nodes, node-small}
-use Rattle.files.proofs.Parts.{nodes-ascending, whole-part, whole-target}
+use Rattle.files.proofs.Parts.{nodes-ascending, whole-part}
 use Rattle.expressions.specs.Expr.{Expr, count}
 use Rattle.expressions.specs.Positions.{accepts}
 use Rattle.expressions.specs.Labels.{exprOf}
@@ -23,8 +23,8 @@ use Rattle.walks.specs.Product.{stepIn, answers}
 use Rattle.walks.proofs.Product.{answers-lists}
 use Rattle.old.specs.Old.{listed}
 use Rattle.old.proofs.OldSearch.{rootPairs, listed-is}
-use Rattle.mowqachi.specs.Plant.{Plant, Found, FinalList, Closed, Holds, body}
-use Rattle.mowqachi.proofs.Comes.{Comes, begin, link, ComesTo, pair-comes, comes-node, found-iff, found-reach, link-step}
+use Rattle.mowqachi.specs.Plant.{Plant, Found, FinalList, Holds, body}
+use Rattle.mowqachi.proofs.Comes.{Comes, begin, link, ComesTo, pair-comes, found-iff, found-reach, link-step}
 
 -- there is one such list
 pub final-unique : (p : Plant) (e : Expr) {ws vs : List ℕ} → FinalList p e ws → FinalList p e vs → ws ≡ vs
@@ -32,11 +32,6 @@ final-unique p e = made-unique (λ xs. file 15 0 0 (map answerWord xs))
 
 -- a file that holds the plant, each node of it with its links, and is a whole
 module _ (p : Plant) (f : List ℕ) (whole : wholeCheck f ≡ 0) (holds : Holds p f) (every : (x : ℕ) → p .Node x → Mem x (nodes (body f))) where
-  whole-closed : Closed p
-  whole-closed x a y l =
-      let (w, m, i, t) = holds .has-link x a y (every x (p .link-node x a y l)) l in
-      holds .is-node y (Memᴰ·cast (sym t) (whole-target f whole x w m))
-
   module _ (e : Expr) (small : count e ≤ 15) where
     root-comes : (c : ℕ) → Mem c (rootPairs f) → (c < 2 ^ 20) × ComesTo p e c
     root-comes c m =
@@ -46,16 +41,17 @@ module _ (p : Plant) (f : List ℕ) (whole : wholeCheck f ≡ 0) (holds : Holds 
 
     comes-reach : {x q : ℕ} → Comes p e x q → Reach (stepIn (body f) e) (rootPairs f) (pair x q)
     comes-reach (begin {r = r} k) = seed (Memᴰ·map (λ x. pair x 0) (holds .has-root r (every r (p .root-node r k)) k))
-    comes-reach (link {x = x} {a = a} {y = y} {t = t} c l s) =
-        next (comes-reach c) (link-step p e small f holds t c (every x (p .link-node x a y l)) l s)
+    comes-reach (link {x = x} {a = a} {y = y} {t = t} c n l s) =
+        next (comes-reach c) (link-step p e small f holds t c (every x (n .0)) n l s)
 
     old-lists : Lists (Found p e) (answers (body f) e (rootPairs f))
     old-lists = lists-iff
-        (λ x. (λ r. found x .0 (r .1), λ r. (every x (comes-node p e whole-closed (found-iff p e whole-closed x .0 r .1)), found x .1 r)))
+        (λ x. (λ r. found x .0 r .1, λ r. found x .1 (every x (found-iff p e x .0 r .0 .0), r)))
         (answers-lists (body f) e small (rootPairs f) (λ c m. root-comes c m .0) (nodes-ascending f (whole-part f whole)))
       where
-        found : (x : ℕ) → ((q : ℕ) × Reach (stepIn (body f) e) (rootPairs f) (pair x q) × T (accepts e q)) ↔ Found p e x
-        found x = found-reach p e small f holds whole-closed (rootPairs f) x (λ c m. root-comes c m .1) (λ q. comes-reach)
+        found : (x : ℕ) → (Mem x (running (body f)) × ((q : ℕ) × Reach (stepIn (body f) e) (rootPairs f) (pair x q) × T (accepts e q)))
+            ↔ (Mem x (nodes (body f)) × Found p e x)
+        found x = found-reach p e small f holds (rootPairs f) x (λ c m. root-comes c m .1) (λ n q. comes-reach)
 
   -- the old search's list is demand 2's
   pub old-final : (path : List ℕ) → pathCheck path ≡ 0 → FinalList p (exprOf (drop 1 path)) (listed f path)

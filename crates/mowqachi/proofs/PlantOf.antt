@@ -1,20 +1,29 @@
 -- The plant of an accepted whole file: it fits that file, has one root, and no link leaves it. And parts with different sites, no node in two
 -- and a door wherever a link crosses are a true cut of the plant that they hold together. Assumes nothing.
 use mathlib.Core.Path.{_≡_, refl, subst}
+use mathlib.Core.Bool.{Bool}
 use mathlib.Core.List.{List, map, List·Memᴰ·eq-of-singleton}
 use Prim.Native.Nat.{ℕ, _≤_}
 use lib.ListN.{length, getD}
 use Rattle.sets.specs.Sets.{Mem, here, Distinct}
-use Rattle.files.specs.Field.{siteOf}
-use Rattle.files.specs.Part.{nodes, roots, doors, wholeCheck}
-use Rattle.files.proofs.Blocks.{roots-nodes, edge-of}
+use Rattle.files.specs.Field.{siteOf, rootOf, stoppedOf}
+use Rattle.files.specs.Part.{nodes, nodesWith, doors, wholeCheck}
+use Rattle.files.proofs.Blocks.{marked-nodes, edge-of}
 use Rattle.files.proofs.Parts.{whole-root, whole-target}
 use Rattle.mowqachi.specs.Plant.{OneRoot, Closed, HasEdge, Holds, AcceptedPart, TrueCut, Fits, Words, body}
 use Rattle.mowqachi.specs.PlantOf.{plantOf, plantOfParts}
 
 -- a file holds its own plant
 pub plant-holds : (f : List ℕ) → Holds (plantOf f) f
-plant-holds f = record { is-node = λ x m. m; has-link = λ x a y m l. l; is-link = λ x a y l. l; has-root = λ x m r. r; is-root = λ x r. r }
+plant-holds f = record {
+  is-node = λ x m. m;
+  has-link = λ x a y m l. l;
+  is-link = λ x a y l. l;
+  has-root = λ x m r. r;
+  is-root = λ x r. r;
+  has-stopped = λ x m s. s;
+  is-stopped = λ x s. s;
+}
 
 pub plant-fits : (f : List ℕ) → Words f → length f ≤ 4096 → wholeCheck f ≡ 0 → Fits (plantOf f) f
 plant-fits f word small c = record {
@@ -45,11 +54,18 @@ parts-cut parts part sites once crossed = record {
     is-node = λ x n. (f, m, n);
     has-link = λ x a y n (g, k, (w, i, l, t)). subst (λ h. HasEdge h x a y) (once x g f k m (edge-of (body g) x w i .2) n) (w, i, l, t);
     is-link = λ x a y e. (f, m, e);
-    has-root = λ x n (g, k, r). subst (λ h. Mem x (roots (body h))) (once x g f k m (roots-nodes (body g) x r) n) r;
+    has-root = has-mark f m rootOf;
     is-root = λ x r. (f, m, r);
+    has-stopped = has-mark f m stoppedOf;
+    is-stopped = λ x s. (f, m, s);
   };
   sites = sites;
   every = λ x n. n;
   once = once;
   crossed = crossed;
 }
+  where
+    -- a node's marks are in the one part that has it
+    has-mark : (f : List ℕ) → Mem f parts → (mark : ℕ → Bool) (x : ℕ) → Mem x (nodes (body f))
+        → (g : List ℕ) × Mem g parts × Mem x (nodesWith mark (body g)) → Mem x (nodesWith mark (body f))
+    has-mark f m mark x n (g, k, r) = subst (λ h. Mem x (nodesWith mark (body h))) (once x g f k m (marked-nodes mark (body g) x r) n) r

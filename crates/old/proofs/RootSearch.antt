@@ -3,22 +3,17 @@ use mathlib.Core.Path.{_≡_, refl, sym, _∙_, ap, subst}
 use mathlib.Core.Logic.{⊎-elim}
 use mathlib.Core.Bool.{Bool, true, false}
 use mathlib.Core.List.{List, [], _∷_, _++_, map, List·Memᴰ·eq-of-singleton}
-use Prim.Native.Nat.{ℕ, zero, suc, _+_, _*_, _%_, _^_, _≤_, _<_}
+use Prim.Native.Nat.{ℕ, suc, _+_, _*_, _%_, _^_, _≤_, _<_}
 use native.Mathlib.Omega.{arith}
-use lib.Dec.{T}
-use lib.ListN.{length, getD, drop, length-map, length-drop, List·getD-eq-default}
+use lib.ListN.{length, getD, drop, length-map, length-drop}
 use Rattle.sets.specs.Sets.{Mem, here, there}
-use Rattle.sets.specs.States.{hasState}
-use Rattle.sets.proofs.Cases.{and-left, clash, lt-or-le, eq-or-ne}
-use Rattle.sets.proofs.Tests.{passed, is-true}
-use Rattle.sets.proofs.Filter.{map-filter-iff}
+use Rattle.sets.proofs.Cases.{and-left, and-right, and-intro, clash, eq-or-ne}
 use Rattle.files.specs.Word.{words, putWord}
-use Rattle.files.specs.Field.{nodeOf, rootOf, pair, answerWord, file, wordOf}
+use Rattle.files.specs.Field.{rootOf, pair, answerWord, file, wordOf}
 use Rattle.files.specs.Refuse.{_then_, roomCheck, sizeCheck}
 use Rattle.files.specs.Outcome.{zeros, padded}
 use Rattle.files.specs.Part.{isNode, isRoot, roots, partCheck, wholeCheck}
 use Rattle.files.specs.Path.{pathCheck}
-use Rattle.files.proofs.Words.{words-length}
 use Rattle.files.proofs.Checks.{checks, then-iff, refused-first, passed-first, refused-then, passed-then}
 use Rattle.files.proofs.Parts.{whole-part, whole-root, part-some}
 use Rattle.expressions.specs.Expr.{Expr}
@@ -28,7 +23,7 @@ use Rattle.paths.specs.Letters.{reads}
 use Rattle.paths.specs.Automaton.{Automates}
 use Rattle.paths.specs.declared.automaton.Automaton.{Automaton}
 use Rattle.slots.specs.Slots.{nodeAt, number}
-use Rattle.slots.proofs.Places.{header-node}
+use Rattle.slots.proofs.Places.{node-below, with-iff}
 use Rattle.walks.specs.Product.{answers}
 use Rattle.walks.specs.Search.{Seeded, Searched}
 use Rattle.walks.specs.Prepare.{Prepared}
@@ -78,54 +73,30 @@ pub record Rootless (ws : List ℕ) (i : ℕ) : Type 0 where
 pub rootless-none : (ws : List ℕ) → Rootless ws 0
 rootless-none ws = record { none = λ j l. absurd (omega arith) }
 
-mem-position : (v : ℕ) (l : List ℕ) → Mem v l → (k : ℕ) × (k < length l) × (getD l k 0 ≡ v)
-mem-position v (x ∷ l) (here e) = (0, omega arith, sym e)
-mem-position v (x ∷ l) (there m) = let (k, b, e) = mem-position v l m in (suc k, omega arith, e)
-
-position-mem : (l : List ℕ) (k : ℕ) → k < length l → Mem (getD l k 0) l
-position-mem [] k b = absurd (omega arith)
-position-mem (x ∷ l) zero b = here refl
-position-mem (x ∷ l) (suc k) b = there (position-mem l k (omega arith))
-
-root-within : (f : List ℕ) (k : ℕ) → isRoot (getD f k 0) ≡ true → k < length f
-root-within f k t = ⊎-elim (λ l. l) (λ l. absurd (clash (rw (List·getD-eq-default f 0 {n = k} l) at t) refl)) (lt-or-le k (length f))
-
-in-roots : (f : List ℕ) (k : ℕ) → isRoot (getD f k 0) ≡ true → nodeAt f 0 ≡ false → Mem (nodeOf (getD f k 0)) (roots (drop 1 f))
+-- a root word is a node word
+pub root-node : (ws : List ℕ) (i : ℕ) → isRoot (getD ws i 0) ≡ true → nodeAt ws i ≡ true
 unfolding nodeAt
-in-roots [] k t n = absurd (omega (arith, root-within [] k t))
-in-roots (h ∷ f) zero t n = absurd (clash (and-left (isNode h) (rootOf h) t) n)
-in-roots (h ∷ f) (suc k) t n =
-    map-filter-iff nodeOf isRoot (nodeOf (getD f k 0)) f .1 (getD f k 0, position-mem f k (root-within f k t), passed t, refl)
+root-node ws i = and-left (isNode (getD ws i 0)) (rootOf (getD ws i 0))
 
 module _ (ws : List ℕ) (c : wholeCheck ws ≡ 0) where
-  -- a root stands behind the header
+  -- a root stands there
   root-there : (j : ℕ) × (j < length ws) × (isRoot (getD ws j 0) ≡ true)
-  root-there = at ws (whole-root ws c)
-    where
-      at : (f : List ℕ) → (r : ℕ) × (roots (drop 1 f) ≡ r ∷ []) → (j : ℕ) × (j < length f) × (isRoot (getD f j 0) ≡ true)
-      at [] (r, e) = absurd (no e)
-        where
-          no : [] ≡ r ∷ [] → ⊥
-          no q = let z : _≡_ {A = ℕ} 0 1 = ap length q in omega arith
-      at (h ∷ f) (r, e) =
-          let (w, m, t, q) = map-filter-iff nodeOf isRoot r f .0 (subst (Mem r) (sym e) (here refl)) in
-          let (k, b, i) = mem-position w f m in
-          (suc k, omega arith, is-true (isRoot (getD f k 0)) (subst (λ v. T (isRoot v)) (sym i) t))
+  unfolding nodeAt
+  root-there =
+      let (r, e) = whole-root ws c in
+      let (j, n, t, q) = with-iff ws (whole-part ws c) rootOf r .0 (subst (Mem r) (sym e) (here refl)) in
+      (j, node-below ws j n, and-intro (isNode (getD ws j 0)) (rootOf (getD ws j 0)) n t)
 
   pub root-is : (i : ℕ) → ((j : ℕ) → j < length ws → isRoot (getD ws j 0) ≡ true → isRoot (getD ws i 0) ≡ true) → isRoot (getD ws i 0) ≡ true
   root-is i f = let (j, l, t) = root-there in f j l t
 
   -- its number is the root
   module _ (i : ℕ) (root : isRoot (getD ws i 0) ≡ true) where
-    pub root-node : nodeAt ws i ≡ true
-    unfolding nodeAt
-    root-node = and-left (isNode (getD ws i 0)) (rootOf (getD ws i 0)) root
-
     root-number : roots (drop 1 ws) ≡ number ws i ∷ []
-    unfolding number
     root-number =
         let (r, e) = whole-root ws c in
-        e ∙ ap (λ x. x ∷ []) (sym (List·Memᴰ·eq-of-singleton (subst (Mem (nodeOf (getD ws i 0))) e (in-roots ws i root (header-node ws (whole-part ws c))))))
+        let m = with-iff ws (whole-part ws c) rootOf (number ws i) .1 (i, root-node ws i root, and-right (isNode (getD ws i 0)) (rootOf (getD ws i 0)) root, refl) in
+        e ∙ ap (λ x. x ∷ []) (sym (List·Memᴰ·eq-of-singleton (subst (Mem (number ws i)) e m)))
 
     -- the search from it
     module _ (a : Automaton) (small : a .accepts < 2 ^ 16) (t : ℕ) (w₁ w₂ w₃ : List ℕ) (top : ℕ)

@@ -2,7 +2,6 @@
 use files::cursor::Cursor;
 use files::cursor::Step;
 use files::field::door;
-use files::field::kind;
 use files::field::node;
 use files::field::root;
 use files::part::Seen;
@@ -22,7 +21,7 @@ ghost use Rattle.files.specs.Part.{start, next, nodeCheck, edgeCheck, wordCheck
 fn check_node(st: Seen, w: u32) -> u32
     ensures { λ r. ⌜ r ≡ nodeCheck st w ⌝ }
 {
-    let clean = w / 0x4_0000 % 0x400 == 0;
+    let clean = w / 0x8_0000 % 0x200 == 0;
     let ascends = st.low <= node(w);
     let sole = !root(w) | (door(w) & !st.rooted);
     first(refuse(5, clean), first(refuse(6, ascends), refuse(7, sole)))

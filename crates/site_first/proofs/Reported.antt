@@ -5,24 +5,39 @@ use mathlib.Core.List.{List, [], _∷_, map, flatten, Memᴰ·cast, Memᴰ·map,
 use Prim.Native.Nat.{ℕ, _*_, _^_, _≤_, _<_}
 use native.Mathlib.Omega.{arith}
 use native.Mathlib.Nat.{le-trans}
-use lib.ListN.{length, length-map}
-use Rattle.sets.specs.Sets.{Mem, here, _⊆_, Ascending, Lists, member}
+use lib.ListN.{length, drop, length-map}
+use Rattle.sets.specs.Sets.{Mem, here, there, _⊆_, Ascending, Lists, member}
 use Rattle.sets.specs.Reach.{Reach, seed, next}
 use Rattle.sets.proofs.Sets.{flatten-map-iff, lists-iff}
 use Rattle.sets.proofs.Filter.{not-member-iff, filter-lists}
 use Rattle.sets.proofs.Reach.{reach-least}
 use Rattle.sets.proofs.Lengths.{pigeonhole, ascending-distinct, flatten-length}
-use Rattle.files.specs.Field.{labelOf, targetOf, pair, pairNode, pairState}
-use Rattle.files.specs.Part.{nodes, edges, outside}
+use Rattle.files.specs.Field.{labelOf, targetOf, pair, pairNode, pairState, doorWord}
+use Rattle.files.specs.Part.{nodes, roots, stopped, edges, outside}
 use Rattle.files.proofs.Fields.{pair-node, pair-state, pair-eta}
-use Rattle.files.proofs.Blocks.{node-small, edge-of, outside-iff}
+use Rattle.files.proofs.Blocks.{node-small, edge-of, stopped-nodes, outside-iff}
 use Rattle.expressions.specs.Expr.{Expr, count}
 use Rattle.expressions.specs.Labels.{holds}
 use Rattle.expressions.proofs.Ranges.{step-range}
 use Rattle.walks.specs.Product.{Walk, positions, stepIn}
-use Rattle.walks.proofs.Product.{positions-iff, positions-length, step-from, step-iff, walk-reach, reach-walk, reached-lists, reached-below, reached-state}
-use Rattle.site_first.specs.First.{Reported, reported}
+use Rattle.walks.proofs.Product.{positions-iff, positions-length, exits-iff, step-from, step-iff, walk-start, walk-reach, reach-walk, reached-lists, reached-below, reached-state}
+use Rattle.site_first.specs.First.{Reported, rowWords, doorRows, IsFirstReply, reported}
 use Rattle.site_first.proofs.Written.{Good}
+
+empty : (cs : List ℕ) → ((c : ℕ) → Mem c cs → ⊥) → cs ≡ []
+empty [] n = refl
+empty (c ∷ cs) n = absurd (n c (here refl))
+
+-- a stopped door has no rows: its words in a first reply are its door word alone
+pub stopped-door : {part path f : List ℕ} (r : IsFirstReply part path f) (x : ℕ) → Mem x (r .doors) → Mem x (stopped (drop 1 part))
+    → doorRows (drop 1 part) (r .pairs x) (r .states) x ≡ doorWord x (member x (roots (drop 1 part))) ∷ []
+unfolding flatten
+stopped-door {part} r x d s = ap (λ ws. doorWord x (member x (roots (drop 1 part))) ∷ ws) (rows (r .states) (λ q m. m))
+  where
+    rows : (qs : List ℕ) → qs ⊆ r .states → flatten (map (λ q. rowWords q (r .pairs x q)) qs) ≡ []
+    rows [] h = refl
+    rows (q ∷ qs) h =
+        rw (empty (r .pairs x q) (λ c m. walk-start (r .each-row x q d (h q (here refl)) .sound c m .0) s)) (rows qs (λ p m. h p (there m)))
 
 pub reported-lists : (part : List ℕ) (e : Expr) → count e ≤ 15 → (x q : ℕ) → pair x q < 2 ^ 20
     → Lists (λ c. Reach (stepIn part e) (pair x q ∷ []) c × (Mem (pairNode c) (nodes part) → ⊥)) (reported part e x q)
@@ -36,12 +51,12 @@ reported-lists part e small x q h = lists-iff
 pub reported-is : (part : List ℕ) (e : Expr) → count e ≤ 15 → (x q : ℕ) → x < 2 ^ 16 → q < 16
     → Lists (λ c. Reported part e x q (pairNode c) (pairState c)) (reported part e x q)
 reported-is part e small x q h k = lists-iff
-    (λ c. (λ r. (walk c (r .0), r .1), λ r. (subst (Reach (stepIn part e) (pair x q ∷ [])) (pair-eta c) (walk-reach part e small (pair x q ∷ []) k (r .0) (seed (here refl))), r .1)))
+    (λ c. (λ r. (walk c (r .0) (r .1), r .1), λ r. (subst (Reach (stepIn part e) (pair x q ∷ [])) (pair-eta c) (walk-reach part e small (pair x q ∷ []) k (r .0) (seed (here refl))), r .1)))
     (reported-lists part e small x q (omega arith))
   where
-    walk : (c : ℕ) → Reach (stepIn part e) (pair x q ∷ []) c → Walk part e x q (pairNode c) (pairState c)
-    walk c r =
-        let (b, m, w) = reach-walk part e small (pair x q ∷ []) c r in
+    walk : (c : ℕ) → Reach (stepIn part e) (pair x q ∷ []) c → (Mem (pairNode c) (nodes part) → ⊥) → Walk part e x q (pairNode c) (pairState c)
+    walk c r out =
+        let (b, m, w) = reach-walk part e small (pair x q ∷ []) c r (λ i. out (stopped-nodes part (pairNode c) i)) in
         rw (List·Memᴰ·eq-of-singleton m, pair-node x q k, pair-state x q k) at w
 
 -- in a state of the expression it is what may stand in a row
@@ -80,7 +95,7 @@ module _ (part : List ℕ) (e : Expr) (small : count e ≤ 15) (x q : ℕ) (stat
           record {
             from = pairNode b;
             by = w;
-            edge = k;
+            edge = exits-iff part (pairNode b) w .0 k .0;
             target = t;
             out = out;
             position = positions-iff (count e) (pairState c) .1 (step-range holds e (pairState b) (labelOf w) (pairState c) s);
@@ -92,10 +107,6 @@ module _ (part : List ℕ) (e : Expr) (small : count e ≤ 15) (x q : ℕ) (stat
       let r = reported-lists part e small x q (omega (arith, node-small part x node)) .sound c m in
       r .1 (Memᴰ·cast (ap pairNode (stays c (r .0)) ∙ pair-node x q state) node))
     where
-      empty : (cs : List ℕ) → ((c : ℕ) → Mem c cs → ⊥) → cs ≡ []
-      empty [] n = refl
-      empty (c ∷ cs) n = absurd (n c (here refl))
-
       stays : (c : ℕ) → Reach (stepIn part e) (pair x q ∷ []) c → c ≡ pair x q
       stays = reach-least (λ c. c ≡ pair x q) (λ c i. List·Memᴰ·eq-of-singleton i)
           (λ c d r i j. let (w, l, t, s) = step-iff part e small c d .0 j in

@@ -29,7 +29,8 @@ abbrev pub doorRows : List ℕ → (ℕ → List ℕ) → List ℕ → ℕ → L
 doorRows part pairs states x = doorWord x (member x (roots part)) ∷ flatten (map (λ q. rowWords q (pairs q)) states)
 
 -- What a first reply is, in document 01's words, however long it is: f, by the words of an accepted part and path. For each door, ascending by
--- node whether root or not, a door word; then for each state from 0 to n, ascending, its row, which holds what is reported, ascending.
+-- node whether root or not, a door word; then for each state from 0 to n, ascending, its row, which holds what is reported, ascending. A stopped
+-- door has its door word and no rows, as no walk starts there; what lies outside is reported, whether or not it is stopped there.
 pub record IsFirstReply (part path f : List ℕ) : Type 0 where
   pub doors : List ℕ
   pub states : List ℕ

@@ -11,14 +11,15 @@ use lib.Dec.{eqb, leb}
 use lib.ListN.{length, getD, drop, length-map, length-drop}
 use Rattle.sets.specs.Sets.{Mem, here, there, Ascending, member, any}
 use Rattle.sets.proofs.Cases.{and-left, and-right, and-intro, clash, lt-or-le, eq-or-ne, not-elim}
-use Rattle.sets.proofs.Tests.{either, passed, is-true}
+use Rattle.sets.proofs.Tests.{either, is-true}
 use Rattle.sets.proofs.Sets.{member-iff}
-use Rattle.sets.proofs.Filter.{any-iff, all-iff, map-iff, map-filter-iff, not-member-iff}
+use Rattle.sets.proofs.Lengths.{mem-at, at-mem}
+use Rattle.sets.proofs.Filter.{any-iff, all-iff, map-iff, not-member-iff}
 use Rattle.files.specs.Word.{words, putWord}
-use Rattle.files.specs.Field.{nodeOf, doorOf, siteOf, labelsOf, pair, pairOf, pairNode, pairState, answerWord, file, wordOf}
+use Rattle.files.specs.Field.{doorOf, siteOf, labelsOf, pair, pairOf, pairNode, pairState, answerWord, file, wordOf}
 use Rattle.files.specs.Refuse.{_then_, _unless_, headerCheck, roomCheck, sizeCheck}
 use Rattle.files.specs.Outcome.{zeros, padded}
-use Rattle.files.specs.Part.{isNode, isDoor, nodes, doors, partCheck}
+use Rattle.files.specs.Part.{nodes, doors, partCheck}
 use Rattle.files.specs.Path.{pathCheck}
 use Rattle.files.specs.Calls.{callCheck, callsCheck}
 use Rattle.files.proofs.Words.{words-length}
@@ -32,7 +33,7 @@ use Rattle.paths.specs.Letters.{reads}
 use Rattle.paths.specs.Automaton.{Automates}
 use Rattle.paths.specs.declared.automaton.Automaton.{Automaton}
 use Rattle.slots.specs.Slots.{nodeAt, number, Kept}
-use Rattle.slots.proofs.Places.{node-below, node-in, in-node, nodes-rise, header-node, nodes-same, rising, nodes-apart}
+use Rattle.slots.proofs.Places.{node-below, node-in, in-node, nodes-rise, with-iff, nodes-same, rising, nodes-apart}
 use Rattle.walks.specs.Product.{answers}
 use Rattle.walks.specs.Search.{Begun, Closed, Blank, Marks, Seeded, Searched}
 use Rattle.walks.specs.Prepare.{Prepared}
@@ -50,33 +51,24 @@ use Rattle.site_second.proofs.SecondReplies.{called-iff, found, second-
 
 -- ---- calls by position
 
-position-mem : (l : List ℕ) (k : ℕ) → k < length l → Mem (getD l k 0) l
-position-mem [] k b = absurd (omega arith)
-position-mem (x ∷ l) zero b = here refl
-position-mem (x ∷ l) (suc k) b = there (position-mem l k (omega arith))
-
-mem-position : (v : ℕ) (l : List ℕ) → Mem v l → (k : ℕ) × (k < length l) × (getD l k 0 ≡ v)
-mem-position v (x ∷ l) (here e) = (0, omega arith, sym e)
-mem-position v (x ∷ l) (there m) = let (k, b, e) = mem-position v l m in (suc k, omega arith, e)
-
 rise-at : (l : List ℕ) (i j : ℕ) → Ascending l → i < j → j < length l → getD l i 0 < getD l j 0
 rise-at [] i j a h b = absurd (omega arith)
 rise-at (x ∷ l) i zero a h b = absurd (omega arith)
-rise-at (x ∷ l) zero (suc j) a h b = a .0 (getD l j 0) (position-mem l j (omega arith))
+rise-at (x ∷ l) zero (suc j) a h b = a .0 (getD l j 0) (at-mem l j (omega arith))
 rise-at (x ∷ l) (suc i) (suc j) a h b = rise-at l i j (a .1) (omega arith) (omega arith)
 
 call-mem : (cs : List ℕ) (k : ℕ) → 1 ≤ k → k < length cs → Mem (callAt cs k) (map pairOf (drop 1 cs))
 unfolding callAt
 call-mem [] k a b = absurd (omega arith)
 call-mem (h ∷ cs) zero a b = absurd (omega arith)
-call-mem (h ∷ cs) (suc k) a b = map-iff pairOf (pairOf (getD cs k 0)) cs .1 (getD cs k 0, position-mem cs k (omega arith), refl)
+call-mem (h ∷ cs) (suc k) a b = map-iff pairOf (pairOf (getD cs k 0)) cs .1 (getD cs k 0, at-mem cs k (omega arith), refl)
 
 mem-call : (cs : List ℕ) (c : ℕ) → Mem c (map pairOf (drop 1 cs)) → (k : ℕ) × (1 ≤ k) × (k < length cs) × (callAt cs k ≡ c)
 unfolding callAt
 mem-call [] c m = elim m [ ]
 mem-call (h ∷ cs) c m =
     let (w, i, e) = map-iff pairOf c cs .0 m in
-    let (k, b, q) = mem-position w cs i in
+    let (k, b, q) = mem-at w cs i in
     (suc k, omega arith, omega arith, ap pairOf q ∙ e)
 
 -- the nodes of accepted calls do not fall
@@ -89,8 +81,8 @@ calls-rise (w ∷ ws) c (suc k) zero a h b f = absurd (omega arith)
 calls-rise (w ∷ ws) c (suc k) (suc l) a h b f =
     let (p, s) = then-iff (headerCheck 11 false true (suc (length ws)) w) _ .0 c in
     let (asc, each) = ordered-iff (callCheck (labelsOf w)) 0 ws .0 s in
-    let i = simp checks at (each (getD ws k 0) (position-mem ws k (omega arith))) in
-    let j = simp checks at (each (getD ws l 0) (position-mem ws l (omega arith))) in
+    let i = simp checks at (each (getD ws k 0) (at-mem ws k (omega arith))) in
+    let j = simp checks at (each (getD ws l 0) (at-mem ws l (omega arith))) in
     let r = rise-at ws k l (asc .1) (omega arith) (omega arith) in
     omega (arith, holder-made 12 (getD ws k 0) (omega arith) (i .0 .0) (i .0 .1), holder-made 12 (getD ws l 0) f (j .0 .0) (j .0 .1))
 
@@ -104,30 +96,6 @@ holds-parts ws i x h =
 holds-made : (ws : List ℕ) (i x : ℕ) → nodeAt ws i ≡ true → number ws i ≡ x → holdsAt ws i x ≡ true
 unfolding holdsAt
 holds-made ws i x n e = and-intro (nodeAt ws i) (eqb (number ws i) x) n (eq-eqb (number ws i) x e)
-
-in-doors : (f : List ℕ) (k : ℕ) → nodeAt f 0 ≡ false → nodeAt f k ≡ true → doorOf (getD f k 0) ≡ true → Mem (number f k) (doors (drop 1 f))
-unfolding nodeAt number
-in-doors [] k h n d = absurd (clash n refl)
-in-doors (w ∷ f) zero h n d = absurd (clash n h)
-in-doors (w ∷ f) (suc k) h n d =
-    map-filter-iff nodeOf isDoor (nodeOf (getD f k 0)) f .1 (
-      getD f k 0,
-      position-mem f k (node-within f k n),
-      passed (and-intro (isNode (getD f k 0)) (doorOf (getD f k 0)) n d),
-      refl,
-    )
-  where
-    node-within : (f : List ℕ) (k : ℕ) → isNode (getD f k 0) ≡ true → k < length f
-    node-within f k n = node-below f k n
-
-doors-in : (f : List ℕ) (x : ℕ) → Mem x (doors (drop 1 f)) → (k : ℕ) × (nodeAt f k ≡ true) × (number f k ≡ x) × (doorOf (getD f k 0) ≡ true)
-unfolding nodeAt number
-doors-in [] x m = elim m [ ]
-doors-in (h ∷ f) x m =
-    let (w, i, t, e) = map-filter-iff nodeOf isDoor x f .0 m in
-    let (k, b, q) = mem-position w f i in
-    let d : (isNode (getD f k 0) && doorOf (getD f k 0)) ≡ true = ap isDoor q ∙ is-true (isDoor w) t in
-    (suc k, and-left (isNode (getD f k 0)) (doorOf (getD f k 0)) d, ap nodeOf q ∙ e, and-right (isNode (getD f k 0)) (doorOf (getD f k 0)) d)
 
 -- from `from` to i all nodes are below x
 pub record Below (ws : List ℕ) (from x i : ℕ) : Type 0 where
@@ -222,7 +190,7 @@ module _ {ws cs : List ℕ} {at k x r : ℕ} (p : partCheck ws ≡ 0) (c : calls
       here-open m =
           let h = found-here call (s .past) adv p b word m in
           let (n, q) = holds-parts ws r x h in
-          subst (λ y. Mem y (doors (drop 1 ws))) (q ∙ call) (in-doors ws r (header-node ws p) n (open-door ws r x (sym shut ∙ e) h))
+          with-iff ws p doorOf (pairNode (callAt cs k)) .1 (r, n, open-door ws r x (sym shut ∙ e) h, q ∙ call)
 
   pub checking-refused : t ≡ true → 14 ≡ (14 unless not (strays ws cs))
   checking-refused e =
@@ -233,7 +201,7 @@ module _ {ws cs : List ℕ} {at k x r : ℕ} (p : partCheck ws ≡ 0) (c : calls
         callAt cs k,
         called-iff (drop 1 ws) (drop 1 cs) (callAt cs k) .1 (call-mem cs k (s .past .low) b, m),
         not-member-iff (pairNode (callAt cs k)) (doors (drop 1 ws)) .1 (λ i.
-            let (j, nj, ej, dj) = doors-in ws (pairNode (callAt cs k)) i in
+            let (j, nj, dj, ej) = with-iff ws p doorOf (pairNode (callAt cs k)) .0 i in
             let same : j ≡ r = nodes-apart ws p j r nj n (ej ∙ sym call ∙ sym q) in
             clash (subst (λ y. doorOf (getD ws y 0) ≡ true) same dj) d),
       )) in

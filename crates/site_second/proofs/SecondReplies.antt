@@ -14,14 +14,14 @@ use Rattle.sets.proofs.Filter.{all-iff}
 use Rattle.files.specs.Field.{siteOf, labelsOf, pair, pairOf, pairNode, pairState, file, answerWord}
 use Rattle.files.specs.Word.{bytesOf}
 use Rattle.files.specs.Outcome.{outcome}
-use Rattle.files.specs.Part.{nodes, doors, partCheck}
+use Rattle.files.specs.Part.{nodes, doors, stopped, running, partCheck}
 use Rattle.files.specs.Path.{pathCheck}
 use Rattle.files.specs.Calls.{callsCheck}
 use Rattle.files.specs.Answers.{answersOf, answersCheck}
 use Rattle.files.proofs.Checks.{checks, then-zero, room-checked}
 use Rattle.files.proofs.Words.{words-bytes, size-checked}
 use Rattle.files.proofs.Fields.{answer, labels-below, site-below, pair-node, pair-state, pair-eta}
-use Rattle.files.proofs.Blocks.{node-small}
+use Rattle.files.proofs.Blocks.{node-small, running-iff}
 use Rattle.files.proofs.Parts.{part-some, nodes-ascending}
 use Rattle.files.proofs.Ordered.{answers-accepted, answers-read}
 use Rattle.files.proofs.Files.{Made, file-made}
@@ -30,7 +30,7 @@ use Rattle.expressions.specs.Positions.{accepts}
 use Rattle.expressions.specs.Labels.{exprOf}
 use Rattle.expressions.proofs.Paths.{path-small, path-some}
 use Rattle.walks.specs.Product.{Walk, stepIn, answers}
-use Rattle.walks.proofs.Product.{accepts-small, walk-reach, reach-walk, answers-lists, answers-nodes, answers-ascending, answers-length}
+use Rattle.walks.proofs.Product.{accepts-small, walk-end, walk-reach, reach-walk, answers-lists, answers-nodes, answers-ascending, answers-length}
 use Rattle.site_second.specs.Second.{IsSecondReply, called, secondReply, againstCheck, secondReplyCall}
 
 -- the called pairs of a part are those of the call list whose nodes the part has
@@ -86,7 +86,14 @@ module _ (part path calls : List ℕ) (p : partCheck part ≡ 0) where
 
   -- what is written is document 01's second reply
   pub second-reply : pathCheck path ≡ 0 → IsSecondReply part path calls (secondReply part path calls)
-  second-reply a = (xs, lists-iff (λ x. (λ r. (r .0, to x (r .1)), λ r. (r .0, from x (r .1)))) all, second-is)
+  second-reply a = (
+    xs,
+    lists-iff (λ x. let i = running-iff (drop 1 part) x in (
+      λ r. (i .0 (r .0) .0, to x (r .1) (i .0 (r .0) .1)),
+      λ (n, h). let (c, q, m, k, w, t) = h in (i .1 (n, walk-end w), from x h),
+    )) all,
+    second-is,
+  )
     where
       e : Expr
       e = exprOf (drop 1 path)
@@ -97,7 +104,7 @@ module _ (part path calls : List ℕ) (p : partCheck part ≡ 0) where
       small : count e ≤ 15
       small = path-small path a
 
-      all : Lists (λ x. Mem x (nodes (drop 1 part)) × ((q : ℕ) × Reach (stepIn (drop 1 part) e) seeds (pair x q) × T (accepts e q))) xs
+      all : Lists (λ x. Mem x (running (drop 1 part)) × ((q : ℕ) × Reach (stepIn (drop 1 part) e) seeds (pair x q) × T (accepts e q))) xs
       all = answers-lists (drop 1 part) e small seeds
           (λ c m. omega (arith, node-small (drop 1 part) (pairNode c) (called-iff (drop 1 part) (drop 1 calls) c .0 m .1))) (nodes-ascending part p)
 
@@ -105,10 +112,10 @@ module _ (part path calls : List ℕ) (p : partCheck part ≡ 0) where
       Hit x = (c : ℕ) × (q : ℕ) × Mem c (map pairOf (drop 1 calls)) × Mem (pairNode c) (nodes (drop 1 part))
           × Walk (drop 1 part) e (pairNode c) (pairState c) x q × T (accepts e q)
 
-      to : (x : ℕ) → ((q : ℕ) × Reach (stepIn (drop 1 part) e) seeds (pair x q) × T (accepts e q)) → Hit x
-      to x (q, r, t) =
+      to : (x : ℕ) → ((q : ℕ) × Reach (stepIn (drop 1 part) e) seeds (pair x q) × T (accepts e q)) → (Mem x (stopped (drop 1 part)) → ⊥) → Hit x
+      to x (q, r, t) a =
           let h : q < 16 = omega (arith, small, accepts-small e q t) in
-          let (c, m, w) = reach-walk (drop 1 part) e small seeds (pair x q) r in
+          let (c, m, w) = reach-walk (drop 1 part) e small seeds (pair x q) r (rw (pair-node x q h) a) in
           let i = called-iff (drop 1 part) (drop 1 calls) c .0 m in
           (c, q, i .0, i .1, rw (pair-node x q h, pair-state x q h) at w, t)
 

@@ -1,20 +1,20 @@
 -- Words by position: the node words of ascending nodes, and the edge words behind a node word as the edges of its node. Assumes nothing.
 use mathlib.Core.Path.{_≡_, refl, sym, ap, subst, _∙_}
 use mathlib.Core.Logic.{_⊎_, inl, inr, ⊎-elim, _↔_}
-use mathlib.Core.Bool.{true, false}
-use mathlib.Core.List.{List, [], _∷_, List·Memᴰ·cases-cons}
+use mathlib.Core.Bool.{Bool, true, false, _&&_}
+use mathlib.Core.List.{List, [], _∷_, map, List·Memᴰ·cases-cons}
 use Prim.Native.Nat.{ℕ, zero, suc, _+_, _-_, _≤_, _<_}
 use native.Mathlib.Omega.{arith}
 use borrow.Author.Tests.{eq-eqb, eqb-true, ne-eqb}
 use lib.ListN.{length, getD, drop, List·getD-eq-default}
 use lib.Seq.{getD-drop}
-use Rattle.sets.specs.Sets.{Mem, here, there, Ascending}
-use Rattle.sets.proofs.Cases.{eq-or-ne, lt-or-le, ne-cases, clash}
+use Rattle.sets.specs.Sets.{Mem, here, there, Ascending, filter}
+use Rattle.sets.proofs.Cases.{eq-or-ne, lt-or-le, ne-cases, clash, and-left, and-right, and-intro}
 use Rattle.sets.proofs.Tests.{either}
-use Rattle.files.specs.Field.{kindOf, nodeOf}
-use Rattle.files.specs.Part.{isNode, isEdge, nodes, front, edges, partCheck}
+use Rattle.files.specs.Field.{kindOf, nodeOf, stoppedOf}
+use Rattle.files.specs.Part.{isNode, isEdge, nodes, nodesWith, stopped, front, edges, partCheck}
 use Rattle.files.proofs.Parts.{part-read, nodes-ascending}
-use Rattle.slots.specs.Slots.{nodeAt, edgeAt, number, Behind}
+use Rattle.slots.specs.Slots.{nodeAt, edgeAt, stoppedAt, idleAt, number, Behind}
 
 -- ---- any words
 
@@ -33,21 +33,45 @@ pub edge-no-node : (ws : List ℕ) (x : ℕ) → edgeAt ws x ≡ true → nodeAt
 unfolding edgeAt nodeAt
 edge-no-node ws x e = ne-eqb (kindOf (getD ws x 0)) 2 (λ n. omega (arith, eqb-true (kindOf (getD ws x 0)) 3 e))
 
+-- the numbers of the words that pass a test, by position; the word 0, which is read past the end, fails it
+module _ (test : ℕ → Bool) (never : test 0 ≡ false) where
+  at-number : (ws : List ℕ) (i : ℕ) → test (getD ws i 0) ≡ true → Mem (nodeOf (getD ws i 0)) (map nodeOf (filter test ws))
+  at-number [] i t = absurd (clash t never)
+  at-number (w ∷ ws) zero t = rw t (here refl)
+  at-number (w ∷ ws) (suc i) t = elim (either (test w)) [ inl e ↦ rw e (there (at-number ws i t)) | inr e ↦ rw e (at-number ws i t) ]
+
+  number-at : (ws : List ℕ) (x : ℕ) → Mem x (map nodeOf (filter test ws)) → (i : ℕ) × (test (getD ws i 0) ≡ true) × (nodeOf (getD ws i 0) ≡ x)
+  number-at [] x m = elim m [ ]
+  number-at (w ∷ ws) x m = elim (either (test w)) [
+    | inl e ↦ ⊎-elim (λ q. (zero, e, sym q)) (λ k. let r = number-at ws x k in (suc (r .0), r .1, r .2)) (List·Memᴰ·cases-cons (rw e at m))
+    | inr e ↦ let r = number-at ws x (rw e at m) in (suc (r .0), r .1, r .2)
+  ]
+
+  -- a first word that fails the test adds none
+  numbers-behind : (ws : List ℕ) → test (getD ws 0 0) ≡ false → map nodeOf (filter test (drop 1 ws)) ≡ map nodeOf (filter test ws)
+  numbers-behind [] e = refl
+  numbers-behind (w ∷ ws) e = rw e
+
 -- a node word's number is one of the nodes
 pub node-in : (ws : List ℕ) (i : ℕ) → nodeAt ws i ≡ true → Mem (number ws i) (nodes ws)
 unfolding nodeAt number
-node-in [] i n = absurd (clash n refl)
-node-in (w ∷ ws) zero n = rw n (here refl)
-node-in (w ∷ ws) (suc i) n = elim (either (isNode w)) [ inl e ↦ rw e (there (node-in ws i n)) | inr e ↦ rw e (node-in ws i n) ]
+node-in = at-number isNode refl
 
 -- and each node is the number of a node word
 pub in-node : (ws : List ℕ) (x : ℕ) → Mem x (nodes ws) → (i : ℕ) × (nodeAt ws i ≡ true) × (number ws i ≡ x)
 unfolding nodeAt number
-in-node [] x m = elim m [ ]
-in-node (w ∷ ws) x m = elim (either (isNode w)) [
-  | inl e ↦ ⊎-elim (λ q. (zero, e, sym q)) (λ k. let r = in-node ws x k in (suc (r .0), r .1, r .2)) (List·Memᴰ·cases-cons (rw e at m))
-  | inr e ↦ let r = in-node ws x (rw e at m) in (suc (r .0), r .1, r .2)
-]
+in-node = number-at isNode refl
+
+-- the last node word before an edge word is the one that it stands behind
+pub idle-behind : (ws : List ℕ) (i x : ℕ) → Behind ws i x → idleAt ws x ≡ stoppedAt ws i
+idle-behind ws i zero b = absurd (omega (arith, b .after))
+idle-behind ws i (suc x) b = ⊎-elim
+    (λ (e : i ≡ x). let n : nodeAt ws x ≡ true = rw e at (b .node) in rw (n, e))
+    (λ d.
+    let l : i < x = omega (arith, b .after) in
+    rw (edge-no-node ws x (b .edges x l (omega arith)))
+    (idle-behind ws i x (record { node = b .node; after = l; below = omega (arith, b .below); edges = λ k a c. b .edges k a (omega arith) })))
+    (eq-or-ne i x)
 
 -- ascending nodes ascend by position
 pub nodes-rise : (ws : List ℕ) (i j : ℕ) → Ascending (nodes ws) → nodeAt ws i ≡ true → nodeAt ws j ≡ true → i < j → number ws i < number ws j
@@ -122,6 +146,30 @@ module _ (ws : List ℕ) (c : partCheck ws ≡ 0) where
       ⊎-elim (λ q. q)
       (λ d. absurd (⊎-elim (λ l. omega (arith, nodes-rise ws i j rising n m l)) (λ l. omega (arith, nodes-rise ws j i rising m n l)) (ne-cases i j d)))
       (eq-or-ne i j)
+
+  -- the nodes with a mark, root, door or stopped, are the numbers of the node words that have it
+  pub with-iff : (mark : ℕ → Bool) (x : ℕ)
+      → Mem x (nodesWith mark (drop 1 ws)) ↔ ((i : ℕ) × (nodeAt ws i ≡ true) × (mark (getD ws i 0) ≡ true) × (number ws i ≡ x))
+  unfolding nodeAt number
+  with-iff mark x = rw (numbers-behind has refl ws (rw header-node)) (
+    λ m.
+        let (i, t, q) = number-at has refl ws x m in
+        (i, and-left (isNode (getD ws i 0)) (mark (getD ws i 0)) t, and-right (isNode (getD ws i 0)) (mark (getD ws i 0)) t, q),
+    λ (i, n, t, q). subst (λ y. Mem y (nodesWith mark ws)) q (at-number has refl ws i (and-intro (isNode (getD ws i 0)) (mark (getD ws i 0)) n t)),
+  )
+    where
+      has : ℕ → Bool
+      has w = isNode w && mark w
+
+  -- so a node is stopped just if its word is marked so
+  pub stopped-iff : (i : ℕ) → nodeAt ws i ≡ true → Mem (number ws i) (stopped (drop 1 ws)) ↔ (stoppedAt ws i ≡ true)
+  unfolding nodeAt stoppedAt
+  stopped-iff i n = (
+    λ m.
+        let (j, k, s, q) = with-iff stoppedOf (number ws i) .0 m in
+        subst (λ k. stoppedAt ws k ≡ true) (sym (nodes-apart i j n k (sym q))) (and-intro (isNode (getD ws j 0)) (stoppedOf (getD ws j 0)) k s),
+    λ s. with-iff stoppedOf (number ws i) .1 (i, n, and-right (isNode (getD ws i 0)) (stoppedOf (getD ws i 0)) s, refl),
+  )
 
   pub behind-iff : (i v : ℕ) → nodeAt ws i ≡ true → Mem v (edges (drop 1 ws) (number ws i)) ↔ ((x : ℕ) × Behind ws i x × (getD ws x 0 ≡ v))
   unfolding edgeAt

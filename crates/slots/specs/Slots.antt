@@ -1,16 +1,16 @@
 -- A part by the positions of its words, the header's being 0, and the slots of a search: a node of the part has its slot at its node word,
 -- a target outside the part at the first edge word that leads to it.
 use mathlib.Core.Path.{_≡_}
-use mathlib.Core.Bool.{Bool, true, false, not, _&&_}
+use mathlib.Core.Bool.{Bool, true, false, cond, not, _&&_}
 use mathlib.Core.List.{List}
-use Prim.Native.Nat.{ℕ, _+_, _≤_, _<_}
+use Prim.Native.Nat.{ℕ, zero, suc, _+_, _≤_, _<_}
 use lib.Dec.{eqb}
 use lib.ListN.{length, getD}
 use Rattle.sets.specs.States.{hasState}
 use Rattle.sets.specs.Table.{half}
 use Rattle.sets.specs.Tally.{tally}
 use Rattle.files.specs.Field.{nodeOf}
-use Rattle.files.specs.Part.{isNode, isEdge, partCheck}
+use Rattle.files.specs.Part.{isNode, isEdge, isStopped, partCheck}
 
 unfoldable pub nodeAt : List ℕ → ℕ → Bool
 nodeAt ws i = isNode (getD ws i 0)
@@ -21,6 +21,19 @@ edgeAt ws i = isEdge (getD ws i 0)
 -- the number of a node word, and the target of an edge word
 unfoldable pub number : List ℕ → ℕ → ℕ
 number ws i = nodeOf (getD ws i 0)
+
+-- the word at i is that of a stopped node
+unfoldable pub stoppedAt : List ℕ → ℕ → Bool
+stoppedAt ws i = isStopped (getD ws i 0)
+
+-- the last node word before x is that of a stopped node
+abbrev pub idleAt : List ℕ → ℕ → Bool
+idleAt ws zero = false
+idleAt ws (suc x) = cond (nodeAt ws x) (stoppedAt ws x) (idleAt ws x)
+
+-- the word at x is that of an edge which a walk may take: its node is not stopped
+abbrev pub exitAt : List ℕ → ℕ → Bool
+exitAt ws x = edgeAt ws x && not (idleAt ws x)
 
 -- the word at x is an edge word of the node word at i: from the one to the other there are edge words only
 pub record Behind (ws : List ℕ) (i x : ℕ) : Type 0 where

@@ -7,7 +7,7 @@ use Prim.Native.Nat.{ℕ, _^_, _≤_}
 use native.Mathlib.Omega.{arith}
 use lib.Dec.{T, ltb, ltb→lt, lit≤}
 use lib.ListN.{length}
-use Rattle.sets.specs.Sets.{any, setOf}
+use Rattle.sets.specs.Sets.{Perm, any, setOf}
 use Rattle.sets.specs.Reach.{closure}
 use Rattle.sets.proofs.Filter.{all-iff}
 use Rattle.sets.proofs.Perm.{perm-refl}
@@ -114,16 +114,23 @@ exampleRoom =
     let reply : Buffers = record { out = 16384; work = 32768 } in
     record { first = λ part. reply; calls = reply; second = λ part. reply; join = record { out = 32768; work = 32768 } }
 
--- the sites in their order, in both trips
-abbrev pub examplePut : Put example
-examplePut = record {
-  order = example .parts;
-  order′ = example .parts;
-  once = perm-refl (example .parts);
-  once′ = perm-refl (example .parts);
+-- the sites in any two orders, in buffers of just the limits
+abbrev pub asking : (q : Asked) (order order′ : List (List ℕ)) → Perm order (q .parts) → Perm order′ (q .parts) → Put q
+asking q order order′ once once′ = record {
+  order = order;
+  order′ = order′;
+  once = once;
+  once′ = once′;
   room = exampleRoom;
   enough = record { first = λ f m. (lit≤ tt, lit≤ tt); calls = (lit≤ tt, lit≤ tt); second = λ f m. (lit≤ tt, lit≤ tt); join = (lit≤ tt, lit≤ tt) };
 }
+
+-- the sites in their order, in both trips
+abbrev pub inTurn : (q : Asked) → Put q
+inTurn q = asking q (q .parts) (q .parts) (perm-refl (q .parts)) (perm-refl (q .parts))
+
+abbrev pub examplePut : Put example
+examplePut = inTurn example
 
 -- the question is run, and ends with the document's files
 pub example-run : question example examplePut ≡ going (record { seconds = b second0 ∷ b second1 ∷ []; final = b final })

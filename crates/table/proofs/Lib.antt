@@ -3,4 +3,5 @@ pub mod Vectors
 pub mod Asked
 pub mod TwoSites
 pub mod Wide
-pub mod Stopped
+pub mod Over
+pub mod StoppedNodes

@@ -6,9 +6,9 @@ use mathlib.Core.Logic.{inl, inr}
 use mathlib.Core.List.{List, [], _∷_, _++_, map, flatten, Memᴰ·of-map, Memᴰ·append-left, Memᴰ·append-right, List·Memᴰ·eq-of-singleton, List·Memᴰ·append-cases}
 use Prim.Native.Nat.{ℕ, _^_, _≤_, _<_}
 use native.Mathlib.Omega.{arith}
-use lib.Dec.{T, leb, ltb, leb→le, ltb→lt, lit≤}
+use lib.Dec.{T, leb, ltb, leb→le, ltb→lt}
 use lib.ListN.{length, getD, length-map}
-use Rattle.sets.specs.Sets.{Mem, here, there, Perm, filter, any, member}
+use Rattle.sets.specs.Sets.{Mem, here, there, filter, any, member}
 use Rattle.sets.proofs.Sets.{filter-iff, member-iff}
 use Rattle.sets.proofs.Filter.{all-iff}
 use Rattle.sets.proofs.Lengths.{flatten-length}
@@ -23,7 +23,7 @@ use Rattle.mowqachi.specs.Demand.{AcceptedPath, Asked, Put, SmallBundles}
 use Rattle.mowqachi.proofs.PlantOf.{parts-cut}
 use Rattle.mowqachi.proofs.Cutter.{some-part, few-parts}
 use Rattle.mowqachi.proofs.Owed.{firstOf, secondOf, list, owed}
-use Rattle.table.proofs.Asked.{words-by-test, exampleRoom}
+use Rattle.table.proofs.Asked.{words-by-test}
 
 -- a part with nodes from `low` on and below `high`, its roots and its doors, whose links all end at doors of the other site
 pub record Site (f : List ℕ) (site low high : ℕ) (rooted offered beyond : List ℕ) : Type 0 where
@@ -123,17 +123,6 @@ module _ (left right : List ℕ) {mid high root : ℕ} {rooted rooted′ offered
     path = path;
     path-accepted = ok;
   }
-
--- the sites in any two orders, in buffers of just the limits
-abbrev pub asking : (q : Asked) (order order′ : List (List ℕ)) → Perm order (q .parts) → Perm order′ (q .parts) → Put q
-asking q order order′ once once′ = record {
-  order = order;
-  order′ = order′;
-  once = once;
-  once′ = once′;
-  room = exampleRoom;
-  enough = record { first = λ f m. (lit≤ tt, lit≤ tt); calls = (lit≤ tt, lit≤ tt); second = λ f m. (lit≤ tt, lit≤ tt); join = (lit≤ tt, lit≤ tt) };
-}
 
 -- two sites never make a bundle that is over its limit
 pub two-small : (q : Asked) (u : Put q) → length (q .parts) ≤ 2 → SmallBundles q u (owed q u)

@@ -1,27 +1,30 @@
 -- Demand 3 is about more than the cutter makes of one file: a plant of 6,000 nodes, which no file holds, on two sites, with a door more than
--- the cut needs, and the second bundle in another order than the first. Its question goes to the end. Assumes nothing.
+-- the cut needs, a stopped door on the way of a walk, and the second bundle in another order than the first. Its question goes to the end.
+-- Assumes nothing.
 use mathlib.Core.Path.{_≡_, refl, ap}
-use mathlib.Core.Bool.{true, false}
+use mathlib.Core.Bool.{true, false, not}
 use mathlib.Core.Logic.{inl, inr}
-use mathlib.Core.List.{List, [], _∷_, _++_, flatten, List·Memᴰ·eq-of-singleton, List·Memᴰ·append-cases}
+use mathlib.Core.List.{List, [], _∷_, _++_, flatten, List·Memᴰ·append-cases}
 use Prim.Native.Nat.{ℕ, zero, suc}
 use native.Mathlib.Omega.{arith}
-use lib.Dec.{lit≤}
+use lib.Dec.{T, eqb, eqb-refl, lit≤}
 use lib.ListN.{length, getD, length-append, length-map, length-drop}
-use Rattle.sets.specs.Sets.{Mem, here, there, _⊆_, Distinct, filter, perm-swap}
+use Rattle.sets.specs.Sets.{Mem, here, there, _⊆_, Distinct, filter, any, perm-swap}
 use Rattle.sets.specs.Reach.{closure}
 use Rattle.sets.proofs.Sets.{filter-iff, on-cons}
-use Rattle.sets.proofs.Filter.{filter-length}
+use Rattle.sets.proofs.Tests.{not-iff}
+use Rattle.sets.proofs.Filter.{any-iff, filter-length}
 use Rattle.sets.proofs.Lengths.{pigeonhole, ascending-distinct}
 use Rattle.sets.proofs.Distinct.{distinct-append}
 use Rattle.sets.proofs.Perm.{perm-refl}
 use Rattle.files.specs.Field.{siteOf, nodeOf, targetOf, file, nodeWord, edgeWord}
-use Rattle.files.specs.Part.{isNode, isEdge, nodes, doors, partCheck}
+use Rattle.files.specs.Part.{isNode, isEdge, nodes, doors, stopped, partCheck}
 use Rattle.files.proofs.Words.{words-bytes}
 use Rattle.files.proofs.Blocks.{edge-of}
 use Rattle.files.proofs.Parts.{nodes-ascending}
-use Rattle.walks.specs.Product.{stepIn, reached}
+use Rattle.walks.specs.Product.{stepIn, reached, answers}
 use Rattle.site_first.specs.First.{reported, doorWords, firstReply}
+use Rattle.site_second.specs.Second.{secondReply}
 use Rattle.hub_calls.specs.CallList.{called, callList}
 use Rattle.mowqachi.specs.Plant.{HasEdge, Fits, body}
 use Rattle.mowqachi.specs.Question.{Call, going, Answer}
@@ -29,27 +32,30 @@ use Rattle.mowqachi.specs.Demand.{Asked, Put, Right, question, Over, NoneOver, 
 use Rattle.mowqachi.proofs.Owed.{list, owed}
 use Rattle.mowqachi.proofs.Demand.{demand-3}
 use Rattle.table.specs.Table.{path}
-use Rattle.table.proofs.Asked.{words-by-test}
-use Rattle.table.proofs.TwoSites.{Site, site-accepted, both, apart, two, only-root, asking, two-small}
+use Rattle.table.proofs.Asked.{words-by-test, asking}
+use Rattle.table.proofs.TwoSites.{Site, site-accepted, both, apart, two, only-root, two-small}
 
 -- n nodes from x on, no doors and without links
 unfoldable pub lone : ℕ → ℕ → List ℕ
 lone x zero = []
-lone x (suc n) = nodeWord x false false ∷ lone (suc x) n
+lone x (suc n) = nodeWord x false false false ∷ lone (suc x) n
 
--- site 0 has the root 0, linked to 3,000, the door 1, to which nothing links, and 2,998 more nodes; site 1 has the door 3,000, linked to 0, and
--- 2,999 more
+-- Site 0 has the root 0, linked to 3,000 and 3,001, the door 1, linked to 3,002, the door 2, to which nothing links, and 2,997 more nodes. Site 1
+-- has the door 3,000, linked to 0, the stopped door 3,001, linked to 1, the door 3,002, and 2,997 more. So a walk to 3,001, and one by 3,001 and
+-- 1 to 3,002, would spell words of P.
 unfoldable pub left : List ℕ
-left = file 1 0 0 (nodeWord 0 true true ∷ edgeWord 5 3000 ∷ nodeWord 1 true false ∷ lone 2 2998)
+left = file 1 0 0 (nodeWord 0 true true false ∷ edgeWord 5 3000 ∷ edgeWord 5 3001 ∷ nodeWord 1 true false false ∷ edgeWord 5 3002
+    ∷ nodeWord 2 true false false ∷ lone 3 2997)
 
 unfoldable pub right : List ℕ
-right = file 1 1 0 (nodeWord 3000 true false ∷ edgeWord 6 0 ∷ lone 3001 2999)
+right = file 1 1 0 (nodeWord 3000 true false false ∷ edgeWord 6 0 ∷ nodeWord 3001 true false true ∷ edgeWord 6 1
+    ∷ nodeWord 3002 true false false ∷ lone 3003 2997)
 
-pub left-is : Site left 0 0 3000 (0 ∷ []) (0 ∷ 1 ∷ []) (3000 ∷ [])
+pub left-is : Site left 0 0 3000 (0 ∷ []) (0 ∷ 1 ∷ 2 ∷ []) (3000 ∷ 3001 ∷ 3002 ∷ [])
 unfolding left lone
 left-is = record { word = tt; short = tt; read = refl; site-is = refl; above = tt; below = tt; roots-are = refl; doors-are = refl; crosses = tt }
 
-pub right-is : Site right 1 3000 6000 [] (3000 ∷ []) (0 ∷ 1 ∷ [])
+pub right-is : Site right 1 3000 6000 [] (3000 ∷ 3001 ∷ 3002 ∷ []) (0 ∷ 1 ∷ 2 ∷ [])
 unfolding right lone
 right-is = record { word = tt; short = tt; read = refl; site-is = refl; above = tt; below = tt; roots-are = refl; doors-are = refl; crosses = tt }
 
@@ -98,41 +104,47 @@ no-file f fits = omega (
     ]
 
 -- a door that the cut does not need: no link ends there, and it is not the root
-links : (filter isEdge (body left) ≡ edgeWord 5 3000 ∷ []) × (filter isEdge (body right) ≡ edgeWord 6 0 ∷ [])
+unlinked : T (not (any (λ w. eqb (targetOf w) 2) (filter isEdge (body left)))) × T (not (any (λ w. eqb (targetOf w) 2) (filter isEdge (body right))))
 unfolding left right lone
-links = (refl, refl)
+unlinked = (tt, tt)
 
-link-to : (f : List ℕ) (l x a y : ℕ) → filter isEdge (body f) ≡ l ∷ [] → HasEdge f x a y → y ≡ targetOf l
-link-to f l x a y e (w, m, i, t) =
+no-link : (f : List ℕ) (y x a : ℕ) → T (not (any (λ w. eqb (targetOf w) y) (filter isEdge (body f)))) → HasEdge f x a y → ⊥
+no-link f y x a u (w, m, i, t) =
     let (k, j, n) = edge-of (body f) x w m in
-    omega (arith, t, ap targetOf (List·Memᴰ·eq-of-singleton (rw e at (filter-iff isEdge w (body f) .1 (k, j)))))
+    not-iff (any (λ w. eqb (targetOf w) y) (filter isEdge (body f))) .0 u
+    (any-iff (λ w. eqb (targetOf w) y) (filter isEdge (body f)) .1 (w, filter-iff isEdge w (body f) .1 (k, j), rw t (eqb-refl y)))
 
-pub further-door : Mem 1 (doors (body left)) × ((x a : ℕ) → wide .plant .Link x a 1 → ⊥) × (wide .plant .Root 1 → ⊥)
+pub further-door : Mem 2 (doors (body left)) × ((x a : ℕ) → wide .plant .Link x a 2 → ⊥) × (wide .plant .Root 2 → ⊥)
 further-door = (
-  rw (left-is .doors-are) (there (here refl)),
-  λ x a (f, m, e). both left right left-is right-is refl (λ f. HasEdge f x a 1 → ⊥) (λ e. omega (arith, link-to left (edgeWord 5 3000) x a 1 (links .0) e))
-      (λ e. omega (arith, link-to right (edgeWord 6 0) x a 1 (links .1) e)) f m e,
-  λ r. omega (arith, only-root left right left-is right-is refl 1 r),
+  rw (left-is .doors-are) (there (there (here refl))),
+  λ x a (f, m, e). both left right left-is right-is refl (λ f. HasEdge f x a 2 → ⊥) (no-link left 2 x a (unlinked .0)) (no-link right 2 x a (unlinked .1)) f m e,
+  λ r. omega (arith, only-root left right left-is right-is refl 2 r),
 )
 
 pub wide-claim : Claim wide widePut (owed wide widePut)
 wide-claim = demand-3 .claim wide widePut (owed wide widePut) (two-small wide widePut (omega arith))
 
 -- nothing that is owed is over its limit, so the question goes on to the end, and its list is demand 2's
-wide-firsts : (length (firstReply left path) ≡ 7) × (length (firstReply right path) ≡ 6)
+wide-firsts : (length (firstReply left path) ≡ 14) × (length (firstReply right path) ≡ 8)
 unfolding left right lone flatten closure stepIn reached reported doorWords firstReply
 wide-firsts = (refl, refl)
 
-wide-list : length (list wide widePut) ≡ 5
+-- the hub calls the stopped door, in the state that its sender reports, and nothing follows: 1 and 3,002 are not called
+pub wide-list : list wide widePut ≡ 0xb0300007 ∷ 0xc0000000 ∷ 0xc0000002 ∷ 0xc000bb81 ∷ 0xc000bb83 ∷ 0xc000bb91 ∷ 0xc000bb93 ∷ []
 unfolding left right lone flatten closure stepIn reached reported doorWords firstReply called callList
 wide-list = refl
+
+-- and neither it nor 3,002 is listed
+pub wide-stopped : Mem 3001 (stopped (body right)) × Mem 3001 (doors (body right)) × (secondReply right path (list wide widePut) ≡ 0xd1300002 ∷ 0xe0000bb8 ∷ [])
+unfolding left right lone flatten closure stepIn reached answers reported doorWords firstReply called callList secondReply
+wide-stopped = (here refl, there (here refl), refl)
 
 wide-none : NoneOver wide widePut (owed wide widePut)
 unfolding owed
 wide-none =
     on-cons Short (λ h. omega (arith, rw (words-bytes left (site-accepted left-is .0)) at h, wide-firsts .0))
     (on-cons Short (λ h. omega (arith, rw (words-bytes right (site-accepted right-is .0)) at h, wide-firsts .1))
-    (on-cons Short (λ h. omega (arith, wide-list)) (on-cons Short (λ h. h) (on-cons Short (λ h. h) (on-cons Short (λ h. h) (λ c m. elim m [ ]))))))
+    (on-cons Short (λ h. omega (arith, ap length wide-list)) (on-cons Short (λ h. h) (on-cons Short (λ h. h) (on-cons Short (λ h. h) (λ c m. elim m [ ]))))))
   where
     Short : Call → Type 0
     Short c = Over wide widePut (owed wide widePut) c → ⊥

@@ -13,6 +13,7 @@ use Rattle.sets.specs.Sets.{Mem, here, there, Ascending, setOf, filter, member}
 use Rattle.sets.specs.Reach.{Reach}
 use Rattle.sets.proofs.Cases.{bool-cases, eq-or-ne, clash}
 use Rattle.sets.proofs.Sets.{unique, filter-ascending, setOf-lists}
+use Rattle.sets.proofs.Lengths.{mem-at, at-mem}
 use Rattle.sets.proofs.Tests.{passed, is-true}
 use Rattle.files.specs.Field.{targetOf, pair, pairNode, pairState}
 use Rattle.files.specs.Part.{isEdge, nodes, outside}
@@ -57,17 +58,6 @@ tab-ascending f at (suc d) h = (
   λ y m. let (k, a, b, e) = tab-in f (suc at) d y m in omega (arith, h at k (omega arith) (omega arith) (omega arith)),
   tab-ascending f (suc at) d (λ k l a b c. h k l (omega arith) b (omega arith)),
 )
-
--- a member has a position, and an element is a member
-mem-at : (v : ℕ) (l : List ℕ) → Mem v l → (k : ℕ) × (k < length l) × (getD l k 0 ≡ v)
-mem-at v [] m = elim m [ ]
-mem-at v (x ∷ l) (here e) = (0, omega arith, sym e)
-mem-at v (x ∷ l) (there m) = let (k, b, e) = mem-at v l m in (suc k, omega arith, e)
-
-at-mem : (l : List ℕ) (k : ℕ) → k < length l → Mem (getD l k 0) l
-at-mem [] k b = absurd (omega arith)
-at-mem (x ∷ l) zero b = here refl
-at-mem (x ∷ l) (suc k) b = there (at-mem l k (omega arith))
 
 -- ---- the outside targets
 

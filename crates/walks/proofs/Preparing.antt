@@ -1,10 +1,10 @@
 -- Tables that are laid out, filled with masks and made blank are ready for searches; and what an automaton's masks and table say of its
 -- expression. Assumes nothing.
-use mathlib.Core.Path.{_≡_, refl, sym, _∙_}
+use mathlib.Core.Path.{_≡_, refl, sym, ap, _∙_}
 use mathlib.Core.Logic.{_⊎_, inl, inr, ⊎-elim}
-use mathlib.Core.Bool.{Bool, true, false, _&&_}
+use mathlib.Core.Bool.{Bool, true, false, cond, not, _&&_}
 use mathlib.Core.List.{List}
-use Prim.Native.Nat.{ℕ, _+_, _≤_, _<_}
+use Prim.Native.Nat.{ℕ, suc, _+_, _≤_, _<_}
 use native.Mathlib.Omega.{arith}
 use lib.Dec.{leb}
 use lib.ListN.{length, getD}
@@ -12,15 +12,17 @@ use Rattle.sets.specs.States.{hasState}
 use Rattle.sets.specs.Table.{putHalf}
 use Rattle.sets.proofs.Cases.{bool-cases, eq-or-ne, clash}
 use Rattle.sets.proofs.Tests.{passed, is-true, and-iff, both, le-iff}
+use Rattle.sets.proofs.StateSets.{has-empty}
 use Rattle.sets.proofs.Tables.{length-put, half-same, half-apart, half-other}
-use Rattle.files.specs.Field.{labelOf}
+use Rattle.files.specs.Field.{labelOf, stoppedOf}
+use Rattle.files.specs.Part.{isNode}
 use Rattle.paths.specs.declared.automaton.Automaton.{Automaton}
 use Rattle.expressions.specs.Expr.{Expr, count}
 use Rattle.expressions.specs.Positions.{labelWord}
 use Rattle.expressions.specs.Labels.{between, holds}
 use Rattle.paths.specs.Letters.{reads}
 use Rattle.paths.specs.Automaton.{Automates}
-use Rattle.slots.specs.Slots.{nodeAt, edgeAt, reachedOf, pendingOf, maskOf, Laid, Kept}
+use Rattle.slots.specs.Slots.{nodeAt, edgeAt, stoppedAt, idleAt, exitAt, reachedOf, pendingOf, maskOf, Laid, Kept}
 use Rattle.walks.specs.Search.{Blank, Follow, Masked}
 use Rattle.walks.specs.Prepare.{Unmoved, Masking, Filled, AllFilled, Prepared, Tables}
 use Rattle.walks.proofs.Storing.{laid-same, laid-kept}
@@ -53,23 +55,35 @@ module _ (ws : List ℕ) (reading : ℕ → ℕ → Bool) (w : List ℕ) (x : �
     half-other (putHalf w 0 x 0) 8192 x m j d ∙ half-apart w 0 x 0 8192 j (inr (omega arith)),
   )
 
-  pub fill-edge : (m : ℕ) → edgeAt ws x ≡ true → ((p : ℕ) → hasState m p ≡ reading (labelOf (getD ws x 0)) p) → Filled ws reading w (stored m) x
-  fill-edge m e h =
+  filled : (m : ℕ) → (exitAt ws x ≡ false → m ≡ 0) → (exitAt ws x ≡ true → (p : ℕ) → hasState m p ≡ reading (labelOf (getD ws x 0)) p)
+      → Filled ws reading w (stored m) x
+  filled m idle mask =
       record {
         unmoved = unmoved m;
-        here = record { reached = here m .0; idle = λ f. absurd (clash e f); mask = λ t p. rw (here m .1) (h p) };
+        here = record { reached = here m .0; idle = λ e. here m .1 ∙ idle e; mask = λ e p. rw (here m .1) (mask e p) };
         others = others m;
       }
 
-  pub fill-other : edgeAt ws x ≡ false → Filled ws reading w (stored 0) x
-  fill-other f =
-      record {
-        unmoved = unmoved 0;
-        here = record { reached = here 0 .0; idle = λ z. here 0 .1; mask = λ t. absurd (clash t f) };
-        others = others 0;
-      }
+  -- an edge word that a walk may take, and any other word
+  pub fill-edge : (m : ℕ) → exitAt ws x ≡ true → ((p : ℕ) → hasState m p ≡ reading (labelOf (getD ws x 0)) p) → Filled ws reading w (stored m) x
+  fill-edge m e h = filled m (λ f. absurd (clash e f)) (λ t. h)
+
+  pub fill-other : exitAt ws x ≡ false → Filled ws reading w (stored 0) x
+  fill-other f = filled 0 (λ t. refl) (λ e. absurd (clash e f))
 
 -- ---- a position after the other
+
+-- whether the next position stands behind a stopped node: by the node word here, or as this one does
+idle-next : (ws : List ℕ) (x : ℕ) → cond (nodeAt ws x) (stoppedAt ws x) (idleAt ws x) ≡ idleAt ws (x + 1)
+idle-next ws x = let e : suc x ≡ x + 1 = omega arith in ap (idleAt ws) e
+
+pub idle-node : (ws : List ℕ) (x : ℕ) {w : ℕ} {b r : Bool} → w ≡ getD ws x 0 → b ≡ isNode w → b ≡ true → r ≡ stoppedOf w → r ≡ idleAt ws (x + 1)
+unfolding nodeAt stoppedAt
+idle-node ws x e n t s = s ∙ rw (← e, sym n ∙ t) at (idle-next ws x)
+
+pub idle-other : (ws : List ℕ) (x : ℕ) {w : ℕ} {b r : Bool} → w ≡ getD ws x 0 → b ≡ isNode w → b ≡ false → r ≡ idleAt ws x → r ≡ idleAt ws (x + 1)
+unfolding nodeAt
+idle-other ws x e n f i = i ∙ rw (← e, sym n ∙ f) at (idle-next ws x)
 
 pub record Filling (ws : List ℕ) (reading : ℕ → ℕ → Bool) (w w′ : List ℕ) (x : ℕ) : Type 0 where
   pub unmoved : Unmoved w w′
@@ -102,28 +116,38 @@ fill-all h f = record { unmoved = f .unmoved; all = λ y l. f .done y (omega ari
 
 -- ---- the tables are ready
 
-node-no-edge : (ws : List ℕ) (x : ℕ) → nodeAt ws x ≡ true → edgeAt ws x ≡ false
-node-no-edge ws x n = ⊎-elim (λ e. absurd (clash n (edge-no-node ws x e))) (λ e. e) (bool-cases (edgeAt ws x))
+node-no-exit : (ws : List ℕ) (x : ℕ) → nodeAt ws x ≡ true → exitAt ws x ≡ false
+node-no-exit ws x n = ⊎-elim (λ e. absurd (clash n (edge-no-node ws x e))) (λ e. rw e) (bool-cases (edgeAt ws x))
+
+-- the mask of an edge word, whether or not a walk may take it
+edge-mask : (ws : List ℕ) (reading : ℕ → ℕ → Bool) (w : List ℕ) (x p : ℕ) → Masking ws reading w x → edgeAt ws x ≡ true
+    → hasState (maskOf w x) p ≡ (not (idleAt ws x) && reading (labelOf (getD ws x 0)) p)
+edge-mask ws reading w x p m e = ⊎-elim
+    (λ (i : idleAt ws x ≡ true). rw (i, m .idle (rw (e, i))) (has-empty p))
+    (λ (i : idleAt ws x ≡ false). rw i (m .mask (rw (e, i)) p))
+    (bool-cases (idleAt ws x))
 
 pub prepared : (ws : List ℕ) (reading : ℕ → ℕ → Bool) (w w′ : List ℕ) (c : ℕ) → Laid ws c w → AllFilled ws reading w w′ → Prepared ws reading c w′
 prepared ws reading w w′ c laid₀ f =
-    let blank : Blank ws w′ = record { reached = λ j l. f .all j l .reached; pending = λ j l n. f .all j l .idle (node-no-edge ws j n) } in
+    let blank : Blank ws w′ = record { reached = λ j l. f .all j l .reached; pending = λ j l n. f .all j l .idle (node-no-exit ws j n) } in
     let laid = laid-same w′ (f .unmoved .long) (f .unmoved .slots) (λ k l. f .unmoved .places k) laid₀ in
-    record { begun = begun-blank ws c w′ laid blank; blank = blank; masks = λ x p l e. f .all x l .mask e p }
+    record { begun = begun-blank ws c w′ laid blank; blank = blank; masks = λ x p l e. edge-mask ws reading w′ x p (f .all x l) e }
 
 -- ---- an automaton's masks and its table, as its expression has them
 
 pub masked : (ws : List ℕ) (a : Automaton) (e : Expr) (t : ℕ) (w : List ℕ) → Automates a e → Prepared ws (reads (a .letters)) t w → Masked ws e w
 masked ws a e t w m r x p l h =
-    let z : hasState (maskOf w x) p ≡ (between 1 (count e) p && holds (labelWord e p) (labelOf (getD ws x 0))) =
-    r .masks x p l h ∙ m .reading (labelOf (getD ws x 0)) p in (
+    let i : hasState (maskOf w x) p ≡ (not (idleAt ws x) && reads (a .letters) (labelOf (getD ws x 0)) p) = r .masks x p l h in
+    let z : reads (a .letters) (labelOf (getD ws x 0)) p ≡ (between 1 (count e) p && holds (labelWord e p) (labelOf (getD ws x 0))) =
+    m .reading (labelOf (getD ws x 0)) p in (
       λ t.
-          let (b, k) = and-iff (between 1 (count e) p) (holds (labelWord e p) (labelOf (getD ws x 0))) .0 (passed (sym z ∙ t)) in
+          let (n, v) = and-iff (not (idleAt ws x)) (reads (a .letters) (labelOf (getD ws x 0)) p) .0 (passed (sym i ∙ t)) in
+          let (b, k) = and-iff (between 1 (count e) p) (holds (labelWord e p) (labelOf (getD ws x 0))) .0 (passed (sym z ∙ is-true _ v)) in
           let (lo, hi) = and-iff (leb 1 p) (leb p (count e)) .0 b in
-          (le-iff 1 p .0 lo, le-iff p (count e) .0 hi, k),
-      λ (lo, hi, k).
-          z ∙ is-true (between 1 (count e) p && holds (labelWord e p) (labelOf (getD ws x 0)))
-          (both (between 1 (count e) p) (holds (labelWord e p) (labelOf (getD ws x 0))) (both (leb 1 p) (leb p (count e)) (le-iff 1 p .1 lo) (le-iff p (count e) .1 hi)) k),
+          (⊎-elim (λ y. absurd (rw y at n)) (λ y. y) (bool-cases (idleAt ws x)), le-iff 1 p .0 lo, le-iff p (count e) .0 hi, k),
+      λ (n, lo, hi, k).
+          i ∙ rw n (z ∙ is-true (between 1 (count e) p && holds (labelWord e p) (labelOf (getD ws x 0)))
+          (both (between 1 (count e) p) (holds (labelWord e p) (labelOf (getD ws x 0))) (both (leb 1 p) (leb p (count e)) (le-iff 1 p .1 lo) (le-iff p (count e) .1 hi)) k)),
     )
 
 pub follows : (a : Automaton) (e : Expr) → Automates a e → Follow e (a .follow)

@@ -1,9 +1,9 @@
 -- Walks of a part and of the position automaton together. A pair (node, state) is one number; a step of the product is an edge of the part whose
 -- label the automaton takes; and the computed lists are what they should be: `reached` all that is reached, `answers` the nodes reached in an
 -- accepting state. The expression has at most 15 letters, so that a state fits its four bits. Assumes nothing.
-use mathlib.Core.Path.{_≡_, refl, subst}
-use mathlib.Core.Logic.{_↔_, ⊎-elim}
-use mathlib.Core.Bool.{Bool, _&&_}
+use mathlib.Core.Path.{_≡_, refl, sym, subst}
+use mathlib.Core.Logic.{_↔_, inl, inr, ⊎-elim}
+use mathlib.Core.Bool.{Bool, not, _&&_}
 use mathlib.Core.List.{List, [], _∷_, map, Memᴰ·append-left, Memᴰ·append-right, List·Memᴰ·append-cases, List·Memᴰ·eq-of-singleton}
 use Prim.Native.Nat.{ℕ, zero, suc, _^_, _≤_, _<_}
 use native.Mathlib.Omega.{arith}
@@ -11,21 +11,21 @@ use native.Mathlib.Nat.{le-trans}
 use native.Mathlib.Decide.{decLe}
 use lib.Dec.{T, eqb, eqb→eq, eqb-refl}
 use lib.ListN.{length, length-append}
-use Rattle.sets.specs.Sets.{Mem, here, there, _⊆_, Ascending, Lists, filter, any}
+use Rattle.sets.specs.Sets.{Mem, here, there, _⊆_, Ascending, Lists, filter, member, any}
 use Rattle.sets.specs.Reach.{Reach, seed, next}
-use Rattle.sets.proofs.Tests.{and-iff, both}
-use Rattle.sets.proofs.Sets.{append-ascending, flatten-map-iff, lists-iff, filter-iff, filter-ascending}
+use Rattle.sets.proofs.Tests.{either, passed, and-iff, both}
+use Rattle.sets.proofs.Sets.{append-ascending, flatten-map-iff, lists-iff, filter-iff, member-iff, filter-ascending}
 use Rattle.sets.proofs.Filter.{any-iff, filter-length, filter-lists, lists-self, map-filter-iff}
 use Rattle.sets.proofs.Reach.{closure-lists, reach-least}
 use Rattle.files.specs.Field.{labelOf, targetOf, pair, pairNode, pairState}
-use Rattle.files.specs.Part.{edges, nodes}
+use Rattle.files.specs.Part.{edges, nodes, stopped, running}
 use Rattle.files.proofs.Fields.{pair-node, pair-state}
-use Rattle.files.proofs.Blocks.{nodes-length, edge-of}
+use Rattle.files.proofs.Blocks.{nodes-length, edge-of, running-iff}
 use Rattle.expressions.specs.Expr.{Expr, count}
 use Rattle.expressions.specs.Positions.{follow, labelWord, step, accepts}
 use Rattle.expressions.specs.Labels.{holds}
 use Rattle.expressions.proofs.Ranges.{step-range, last-within, follow-within}
-use Rattle.walks.specs.Product.{Walk, stay, go, positions, stepIn, reached, answers}
+use Rattle.walks.specs.Product.{Walk, stay, go, positions, exits, stepIn, reached, answers}
 
 pub positions-iff : (n p : ℕ) → Mem p (positions n) ↔ ((1 ≤ p) × (p ≤ n))
 positions-iff zero p = (λ m. elim m [ ], λ h. absurd (omega arith))
@@ -67,11 +67,34 @@ pub step-from : (e : Expr) (q a p : ℕ) → T (step holds e q a p) → q ≤ co
 step-from e zero a p t = omega arith
 step-from e (suc q) a p t = omega (arith, follow-within e 0 (suc q) p (and-iff (follow e 0 (suc q) p) (holds (labelWord e p) a) .0 t .0))
 
+-- a walk may take the edges of nodes that are not stopped
+pub exits-iff : (part : List ℕ) (x w : ℕ) → Mem w (exits part x) ↔ (Mem w (edges part x) × (Mem x (stopped part) → ⊥))
+exits-iff part x w = elim (either (member x (stopped part))) [
+  | inl b ↦ rw b (λ m. elim m [ ], λ m. absurd (m .1 (member-iff x (stopped part) .0 (passed b))))
+  | inr b ↦ rw b (λ m. (m, λ k. rw b at (member-iff x (stopped part) .1 k)), λ m. m .0)
+]
+
+-- so they leave running nodes
+pub exits-running : (part : List ℕ) (x w : ℕ) → Mem w (exits part x) → Mem x (running part)
+exits-running part x w m = let (k, r) = exits-iff part x w .0 m in running-iff part x .1 (edge-of part x w k .2, r)
+
+-- no walk starts at a stopped node, and none ends at one
+pub walk-start : {part : List ℕ} {e : Expr} {x q y t : ℕ} → Walk part e x q y t → Mem x (stopped part) → ⊥
+walk-start (stay a) = a
+walk-start {part} {x = x} (go w n m s k) = running-iff part x .0 n .1
+
+pub walk-end : {part : List ℕ} {e : Expr} {x q y t : ℕ} → Walk part e x q y t → Mem y (stopped part) → ⊥
+walk-end (stay a) = a
+walk-end (go w n m s k) = walk-end k
+
 -- a walk, one edge longer
-walk-on : {part : List ℕ} {e : Expr} {x q y t : ℕ} (p w : ℕ) → Walk part e x q y t → Mem y (nodes part) → Mem w (edges part y)
-    → T (step holds e t (labelOf w) p) → Walk part e x q (targetOf w) p
-walk-on p w stay n m s = go w n m s stay
-walk-on p w (go v i j k r) n m s = go v i j k (walk-on p w r n m s)
+walk-on : {part : List ℕ} {e : Expr} {x q y t : ℕ} (p w : ℕ) → Walk part e x q y t → Mem y (running part) → Mem w (edges part y)
+    → T (step holds e t (labelOf w) p) → (Mem (targetOf w) (stopped part) → ⊥) → Walk part e x q (targetOf w) p
+walk-on p w (stay a) n m s b = go w n m s (stay b)
+walk-on p w (go v i j k r) n m s b = go v i j k (walk-on p w r n m s b)
+
+running-ascending : (part : List ℕ) → Ascending (nodes part) → Ascending (running part)
+running-ascending part a = filter-ascending (λ x. not (member x (stopped part))) (nodes part) a
 
 -- answers are nodes of the part, in the part's order
 module _ (part : List ℕ) (e : Expr) (seeds : List ℕ) where
@@ -81,21 +104,22 @@ module _ (part : List ℕ) (e : Expr) (seeds : List ℕ) where
 
   pub answers-nodes : answers part e seeds ⊆ nodes part
   unfolding answers
-  answers-nodes x m = filter-iff lands x (nodes part) .0 m .0
+  answers-nodes x m = running-iff part x .0 (filter-iff lands x (running part) .0 m .0) .0
 
   pub answers-ascending : Ascending (nodes part) → Ascending (answers part e seeds)
   unfolding answers
-  answers-ascending a = filter-ascending lands (nodes part) a
+  answers-ascending a = filter-ascending lands (running part) (running-ascending part a)
 
   -- and no more than its words
   pub answers-length : length (answers part e seeds) ≤ length part
   unfolding answers
-  answers-length = le-trans (filter-length lands (nodes part)) (nodes-length part)
+  answers-length = le-trans (filter-length lands (running part))
+      (le-trans (filter-length (λ x. not (member x (stopped part))) (nodes part)) (nodes-length part))
 
 module _ (part : List ℕ) (e : Expr) (small : count e ≤ 15) where
-  -- a step: an edge of c's node leads to d's node, and on its label c's state steps to d's
+  -- a step: an edge of c's node, which is not stopped, leads to d's node, and on its label c's state steps to d's
   pub step-iff : (c d : ℕ) → Mem d (stepIn part e c)
-      ↔ ((w : ℕ) × Mem w (edges part (pairNode c)) × (targetOf w ≡ pairNode d) × T (step holds e (pairState c) (labelOf w) (pairState d)))
+      ↔ ((w : ℕ) × Mem w (exits part (pairNode c)) × (targetOf w ≡ pairNode d) × T (step holds e (pairState c) (labelOf w) (pairState d)))
   unfolding stepIn
   step-iff c d = (
     λ m.
@@ -118,30 +142,35 @@ module _ (part : List ℕ) (e : Expr) (small : count e ≤ 15) where
       to : (w : ℕ) → Mem d (by w) ↔ ((p : ℕ) × Mem p (positions (count e)) × T (test w p) × (pair (targetOf w) p ≡ d))
       to w = map-filter-iff (pair (targetOf w)) (test w) d (positions (count e))
 
-      all : Mem d (stepIn part e c) ↔ ((w : ℕ) × Mem w (edges part (pairNode c)) × Mem d (by w))
-      all = flatten-map-iff by d (edges part (pairNode c))
+      all : Mem d (stepIn part e c) ↔ ((w : ℕ) × Mem w (exits part (pairNode c)) × Mem d (by w))
+      all = flatten-map-iff by d (exits part (pairNode c))
 
   pub pair-step-iff : (x q y t : ℕ) → q < 16 → t < 16
-      → Mem (pair y t) (stepIn part e (pair x q)) ↔ ((w : ℕ) × Mem w (edges part x) × (targetOf w ≡ y) × T (step holds e q (labelOf w) t))
+      → Mem (pair y t) (stepIn part e (pair x q)) ↔ ((w : ℕ) × Mem w (exits part x) × (targetOf w ≡ y) × T (step holds e q (labelOf w) t))
   pair-step-iff x q y t h k = rw (pair-node x q h, pair-state x q h, pair-node y t k, pair-state y t k) at (step-iff (pair x q) (pair y t))
 
   step-below : (c d : ℕ) → Mem d (stepIn part e c) → d < 2 ^ 20
   step-below c d m = let r = step-iff c d .0 m in omega (arith, r .2)
 
-  -- walks are what is reached by steps
+  -- walks are what is reached by steps, but for pairs of stopped nodes
   pub walk-reach : (seeds : List ℕ) {x q y t : ℕ} → q < 16 → Walk part e x q y t → Reach (stepIn part e) seeds (pair x q) → Reach (stepIn part e) seeds (pair y t)
-  walk-reach seeds h stay r = r
+  walk-reach seeds h (stay a) r = r
   walk-reach seeds h (go {x = x} {q = q} {p = p} w n m s k) r =
       let l = step-range holds e q (labelOf w) p s in
-      walk-reach seeds (omega arith) k (next r (pair-step-iff x q (targetOf w) p h (omega arith) .1 (w, m, refl, s)))
+      walk-reach seeds (omega arith) k (next r (pair-step-iff x q (targetOf w) p h (omega arith) .1 (w, exits-iff part x w .1 (m, running-iff part x .0 n .1), refl, s)))
 
-  pub reach-walk : (seeds : List ℕ) (c : ℕ) → Reach (stepIn part e) seeds c
+  pub reach-walk : (seeds : List ℕ) (c : ℕ) → Reach (stepIn part e) seeds c → (Mem (pairNode c) (stopped part) → ⊥)
       → (b : ℕ) × Mem b seeds × Walk part e (pairNode b) (pairState b) (pairNode c) (pairState c)
-  reach-walk seeds c (seed m) = (c, m, stay)
-  reach-walk seeds d (next {x = c} r m) =
-      let (b, i, k) = reach-walk seeds c r in
+  reach-walk seeds c (seed m) a = (c, m, stay a)
+  reach-walk seeds d (next {x = c} r m) a =
       let (w, j, t, s) = step-iff c d .0 m in
-      (b, i, subst (λ y. Walk part e (pairNode b) (pairState b) y (pairState d)) t (walk-on (pairState d) w k (edge-of part (pairNode c) w j .2) j s))
+      let (l, o) = exits-iff part (pairNode c) w .0 j in
+      let (b, i, k) = reach-walk seeds c r o in (
+        b,
+        i,
+        subst (λ y. Walk part e (pairNode b) (pairState b) y (pairState d)) t
+            (walk-on (pairState d) w k (exits-running part (pairNode c) w j) l s (subst (λ y. Mem y (stopped part) → ⊥) (sym t) a)),
+      )
 
   -- from states of the expression, only states of the expression are reached
   pub reached-state : (seeds : List ℕ) → ((c : ℕ) → Mem c seeds → pairState c ≤ count e)
@@ -157,11 +186,11 @@ module _ (part : List ℕ) (e : Expr) (small : count e ≤ 15) where
     pub reached-below : (c : ℕ) → Reach (stepIn part e) seeds c → c < 2 ^ 20
     reached-below = reach-least (λ c. c < 2 ^ 20) below (λ c d r h. step-below c d)
 
-    -- the nodes of the part that are reached in an accepting state
+    -- the running nodes of the part that are reached in an accepting state
     pub answers-lists : Ascending (nodes part)
-        → Lists (λ x. Mem x (nodes part) × ((q : ℕ) × Reach (stepIn part e) seeds (pair x q) × T (accepts e q))) (answers part e seeds)
+        → Lists (λ x. Mem x (running part) × ((q : ℕ) × Reach (stepIn part e) seeds (pair x q) × T (accepts e q))) (answers part e seeds)
     unfolding answers
-    answers-lists a = lists-iff (λ x. (λ r. (r .0, hit x .0 (r .1)), λ r. (r .0, hit x .1 (r .1)))) (filter-lists (λ x. any (λ c. at x c) all) (lists-self a))
+    answers-lists a = lists-iff (λ x. (λ r. (r .0, hit x .0 (r .1)), λ r. (r .0, hit x .1 (r .1)))) (filter-lists (λ x. any (λ c. at x c) all) (lists-self (running-ascending part a)))
       where
         all : List ℕ
         all = reached part e seeds

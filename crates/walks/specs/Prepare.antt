@@ -1,13 +1,13 @@
 -- Tables that are ready for searches: `reading label p` says that position p reads the label.
 use mathlib.Core.Path.{_≡_}
-use mathlib.Core.Bool.{Bool, true, false}
+use mathlib.Core.Bool.{Bool, true, false, not, _&&_}
 use mathlib.Core.List.{List}
 use Prim.Native.Nat.{ℕ, _<_}
 use lib.ListN.{length, getD}
 use Rattle.sets.specs.States.{hasState}
 use Rattle.files.specs.Field.{labelOf}
 use Rattle.expressions.specs.Expr.{Expr}
-use Rattle.slots.specs.Slots.{edgeAt, reachedOf, pendingOf, maskOf, slotOf, placeOf, Laid}
+use Rattle.slots.specs.Slots.{edgeAt, idleAt, exitAt, reachedOf, pendingOf, maskOf, slotOf, placeOf, Laid}
 use Rattle.walks.specs.Search.{Masked, Blank, Begun}
 
 -- the slots and the list of outside targets were left as they are
@@ -16,11 +16,11 @@ pub record Unmoved (w w′ : List ℕ) : Type 0 where
   pub slots : (x : ℕ) → x < 4096 → slotOf w′ x ≡ slotOf w x
   pub places : (k : ℕ) → placeOf w′ k ≡ placeOf w k
 
--- position x has no marks, and the mask of its label where an edge word stands there
+-- position x has no marks, and the mask of its label where an edge word that a walk may take stands there
 pub record Masking (ws : List ℕ) (reading : ℕ → ℕ → Bool) (w : List ℕ) (x : ℕ) : Type 0 where
   pub reached : reachedOf w x ≡ 0
-  pub idle : edgeAt ws x ≡ false → pendingOf w x ≡ 0
-  pub mask : edgeAt ws x ≡ true → (p : ℕ) → hasState (maskOf w x) p ≡ reading (labelOf (getD ws x 0)) p
+  pub idle : exitAt ws x ≡ false → pendingOf w x ≡ 0
+  pub mask : exitAt ws x ≡ true → (p : ℕ) → hasState (maskOf w x) p ≡ reading (labelOf (getD ws x 0)) p
 
 -- position x was made so
 pub record Filled (ws : List ℕ) (reading : ℕ → ℕ → Bool) (w w′ : List ℕ) (x : ℕ) : Type 0 where
@@ -37,7 +37,7 @@ pub record AllFilled (ws : List ℕ) (reading : ℕ → ℕ → Bool) (w w′ : 
 pub record Prepared (ws : List ℕ) (reading : ℕ → ℕ → Bool) (t : ℕ) (w : List ℕ) : Type 0 where
   pub begun : Begun ws t w 0
   pub blank : Blank ws w
-  pub masks : (x p : ℕ) → x < length ws → edgeAt ws x ≡ true → hasState (maskOf w x) p ≡ reading (labelOf (getD ws x 0)) p
+  pub masks : (x p : ℕ) → x < length ws → edgeAt ws x ≡ true → hasState (maskOf w x) p ≡ (not (idleAt ws x) && reading (labelOf (getD ws x 0)) p)
 
 -- the tables of a part for searches by an expression's automaton
 pub record Tables (ws : List ℕ) (e : Expr) (t : ℕ) (w : List ℕ) : Type 0 where

@@ -6,7 +6,7 @@ use mowqachi_tests::generate::calls::{call, room, NAMES};
 use mowqachi_tests::random::{seed, Random};
 use std::collections::BTreeMap;
 
-/// Accepted calls of each name; of refusals, one for each input and number.
+/// Accepted calls of each name, and a quarter as many in which stopped nodes matter; of refusals, one for each input and number.
 const ACCEPTED: usize = 20;
 /// Words of all inputs together, so that computing stays cheap.
 const WORDS: usize = 24;
@@ -88,10 +88,16 @@ fn size(call: &Call) -> usize {
     }
 }
 
-/// Whether a vector is wanted: refusals once for each input and number, acceptances that have something to say.
-fn wanted(outcome: &Outcome, taken: &mut BTreeMap<(u32, &'static str), usize>) -> bool {
+/// Whether a vector is wanted: refusals once for each input and number, acceptances that have something to say or hang on a stopped node.
+fn wanted(
+    call: &Call,
+    room: Room,
+    outcome: &Outcome,
+    taken: &mut BTreeMap<(u32, &'static str), usize>,
+) -> bool {
     let (key, most) = match outcome {
         Err(refusal) => ((refusal.number, refusal.input), 1),
+        Ok(_) if call.stopped_matter(room, outcome, |_| true) => ((0, "stopped"), ACCEPTED / 4),
         Ok(words) if words.len() > 2 => ((0, "long"), ACCEPTED * 3 / 4),
         Ok(_) => ((0, "short"), ACCEPTED / 4),
     };
@@ -120,7 +126,7 @@ fn section(name: &str) -> (usize, String) {
         let room = room(&mut random, &call);
         if size(&call) <= 4 * WORDS {
             let outcome = call.evaluate(room);
-            if wanted(&outcome, &mut taken) {
+            if wanted(&call, room, &outcome, &mut taken) {
                 equations.push(equation(&call, room, &outcome));
                 unfolded = definition(&call).2;
             }

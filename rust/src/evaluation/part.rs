@@ -8,6 +8,7 @@ pub struct Node {
     pub number: u32,
     pub door: bool,
     pub root: bool,
+    pub stopped: bool,
     /// Label and target.
     pub edges: Vec<(u32, u32)>,
 }
@@ -37,7 +38,8 @@ impl Part {
     pub fn words(&self) -> Vec<u32> {
         let mut words = vec![];
         for node in &self.nodes {
-            let marks = u32::from(node.door) << 16 | u32::from(node.root) << 17;
+            let marks =
+                u32::from(node.door) << 16 | u32::from(node.root) << 17 | u32::from(node.stopped) << 18;
             words.push(NODE << 28 | marks | node.number);
             words.extend(node.edges.iter().map(|(label, target)| EDGE << 28 | label << 16 | target));
         }
@@ -46,8 +48,9 @@ impl Part {
 }
 
 fn read_node(word: u32, nodes: &[Node]) -> Result<Node, Refusal> {
-    let (number, door, root) = (bits(word, 15, 0), bits(word, 16, 16) == 1, bits(word, 17, 17) == 1);
-    if bits(word, 27, 18) != 0 {
+    let number = bits(word, 15, 0);
+    let [door, root, stopped] = [16, 17, 18].map(|bit| bits(word, bit, bit) == 1);
+    if bits(word, 27, 19) != 0 {
         return refuse(5, "node zero bit");
     }
     if nodes.last().is_some_and(|last| last.number >= number) {
@@ -59,7 +62,7 @@ fn read_node(word: u32, nodes: &[Node]) -> Result<Node, Refusal> {
     if root && nodes.iter().any(|node| node.root) {
         return refuse(7, "second root");
     }
-    Ok(Node { number, door, root, edges: vec![] })
+    Ok(Node { number, door, root, stopped, edges: vec![] })
 }
 
 fn add_edge(word: u32, nodes: &mut [Node]) -> Result<(), Refusal> {
@@ -115,7 +118,7 @@ pub fn check_cuts(whole: &Part, cuts: &[u8], site: u32) -> Result<(), Refusal> {
     Ok(())
 }
 
-/// The asked site's part: its doors are the root and the targets of links from other sites' nodes.
+/// The asked site's part: its doors are the root and the targets of links from other sites' nodes, stopped ones too.
 pub fn cut_part(whole: &Part, cuts: &[u8], site: u32) -> Part {
     let sited = || whole.nodes.iter().zip(cuts.iter().map(|byte| u32::from(*byte)));
     let elsewhere = sited().filter(|(_, at)| *at != site);

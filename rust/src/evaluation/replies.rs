@@ -8,18 +8,18 @@ use std::collections::BTreeSet;
 
 pub type Pair = (u32, usize);
 
-/// All pairs that walks from the given pairs of the part end in. A node outside the part ends its walk.
+/// All pairs that walks from the given pairs of the part end in. Every node of a walk is running, its first and its last too; a node outside
+/// the part ends its walk, and nobody here knows whether it is stopped.
 pub fn walks(part: &Part, path: &Path, states: &States, from: &[Pair]) -> BTreeSet<Pair> {
-    let mut reached: BTreeSet<Pair> = from.iter().copied().collect();
+    let mut reached = BTreeSet::new();
     let mut waiting = from.to_vec();
     while let Some((number, q)) = waiting.pop() {
-        let Some(node) = part.node(number) else { continue };
-        for (label, target) in &node.edges {
-            for p in states.after(path, q, *label) {
-                if reached.insert((*target, p)) {
-                    waiting.push((*target, p));
-                }
-            }
+        let node = part.node(number);
+        if node.is_some_and(|node| node.stopped) || !reached.insert((number, q)) {
+            continue;
+        }
+        for (label, target) in node.iter().flat_map(|node| &node.edges) {
+            waiting.extend(states.after(path, q, *label).map(|p| (*target, p)));
         }
     }
     reached

@@ -64,14 +64,14 @@ fn cut(random: &mut Random) -> Call {
 fn part_and_path(random: &mut Random, plant: fn(&mut Random, &[u32]) -> Plant) -> (Part, Vec<u32>) {
     let alphabet = path::alphabet(random);
     let plant = plant(random, &alphabet);
-    let (sites, further) = (random.between(1, 4), random.pick(&[0, 10, 100]));
+    let (sites, further) = (random.pick(&[1, 2, 2, 3, 4]), random.pick(&[0, 0, 0, 10, 100]));
     let parts = plant::true_cut(random, &plant, sites, further);
     let most = parts.iter().max_by_key(|part| part.nodes.len()).expect("a cut has parts");
     let part = if random.chance(70) { most.clone() } else { random.pick(&parts) };
     (part, path::some_path(random, &alphabet))
 }
 
-/// Doors with links of label 0 to the same targets, and a star of an or of full ranges: a reply near its limit.
+/// Doors with links of label 0 to the same targets, and a star of an or of full ranges: a reply near its limit, if no door is stopped.
 fn dear_part_and_path(random: &mut Random) -> (Part, Vec<u32>) {
     let (doors, n) = (random.between(1, 3), random.between(1, 15));
     let fits = (4095 / doors - 1) / (n + 1) - 1;
@@ -80,13 +80,10 @@ fn dear_part_and_path(random: &mut Random) -> (Part, Vec<u32>) {
         number: 8 * door as u32,
         door: true,
         root: door == 1,
+        stopped: random.chance(8),
         edges: (0..targets).map(|target| (0, 30 + target)).collect(),
     };
-    let full = LABEL << 28 | 4095 << 12;
-    let mut words = vec![full];
-    (1..n).for_each(|_| words.extend([full, path::OR]));
-    words.push(path::STAR);
-    (Part { site: 9, nodes: (0..doors).map(node).collect() }, file(PATH, 0, n as u32, &words))
+    (Part { site: 9, nodes: (0..doors).map(node).collect() }, path::or_of_ranges(n, true))
 }
 
 fn first_reply(random: &mut Random) -> Call {

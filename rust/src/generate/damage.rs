@@ -31,7 +31,7 @@ fn likely_word(random: &mut Random) -> u32 {
     let (node, state) = (random.below(12) as u32, random.below(16) as u32);
     let kind = random.below(16) as u32;
     let fields = match kind {
-        NODE => node | (random.below(4) as u32 * 0x1_0000),
+        NODE => node | (random.below(8) as u32 * 0x1_0000),
         EDGE => node | (random.below(4096) as u32 * 0x1_0000),
         LABEL if random.chance(50) => random.word(),
         LABEL => random.pick(&[node, node * 0x1001, 0x0100_0000 | (node % 8)]),
@@ -49,7 +49,7 @@ fn likely_word(random: &mut Random) -> u32 {
 fn kind_damage(random: &mut Random, word: u32) -> u32 {
     let state = random.between(0, 15) as u32;
     match kind(word) {
-        NODE => word & !(3 << 16) | random.pick(&[0, 2, 3]) << 16,
+        NODE => word & !(7 << 16) | random.pick(&[0, 2, 3, 6, 7]) << 16,
         DOOR => word ^ 1 << 16,
         LABEL if random.chance(40) => word & !(15 << 24) | (random.between(1, 15) as u32 * (1 << 24)),
         LABEL if random.chance(50) => LABEL << 28 | 1 << 24 | 1 << random.between(0, 23),

@@ -61,7 +61,20 @@ pub fn path(random: &mut Random, alphabet: &[u32], operands: usize) -> Vec<u32> 
     file(PATH, 0, n, &words)
 }
 
+/// An or of full ranges, starred or not.
+pub fn or_of_ranges(n: usize, star: bool) -> Vec<u32> {
+    let full = range(0, 4095);
+    let mut words = vec![full];
+    (1..n).for_each(|_| words.extend([full, OR]));
+    words.extend(star.then_some(STAR));
+    file(PATH, 0, n as u32, &words)
+}
+
+/// Any path, now and then one that every walk spells, so that nothing but stopped nodes is in its way.
 pub fn some_path(random: &mut Random, alphabet: &[u32]) -> Vec<u32> {
+    if random.chance(20) {
+        return or_of_ranges(random.between(1, 3), true);
+    }
     let most = random.pick(&[2, 4, 8, 16, 31]);
     let operands = random.between(1, most);
     path(random, alphabet, operands)

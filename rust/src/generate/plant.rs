@@ -22,7 +22,7 @@ fn numbers(random: &mut Random, count: usize) -> Vec<u32> {
     numbers.into_iter().collect()
 }
 
-/// A plant of `count` nodes with up to `degree` links each; `near` of a hundred targets lie near their source, the others anywhere.
+/// A plant of `count` running nodes with up to `degree` links each; `near` of a hundred targets lie near their source, the others anywhere.
 pub fn plant(random: &mut Random, count: usize, degree: usize, near: usize, alphabet: &[u32]) -> Plant {
     let numbers = numbers(random, count);
     let count = numbers.len();
@@ -37,14 +37,23 @@ pub fn plant(random: &mut Random, count: usize, degree: usize, near: usize, alph
         });
         nodes.insert(numbers[at], links.collect());
     }
-    Plant { root: random.pick(&numbers), nodes }
+    Plant { root: random.pick(&numbers), nodes, stopped: BTreeSet::new() }
+}
+
+/// The plant with so many of a hundred nodes stopped. The root is seldom one of them, as it alone empties the list.
+pub fn stop(random: &mut Random, plant: Plant, percent: usize) -> Plant {
+    let root = percent > 0 && random.chance(15);
+    let stops = |node: &u32| if *node == plant.root { root } else { random.chance(percent) };
+    let stopped = plant.nodes.keys().copied().filter(stops).collect();
+    Plant { stopped, ..plant }
 }
 
 pub fn some_plant(random: &mut Random, alphabet: &[u32]) -> Plant {
     let most = random.pick(&[1, 4, 8, 8, 16, 16, 40, 100]);
     let (count, degree) = (random.between(1, most), random.between(1, 4));
-    let near = random.pick(&[0, 50, 95]);
-    plant(random, count, degree, near, alphabet)
+    let (near, stopped) = (random.pick(&[0, 50, 95]), random.pick(&[0, 15, 40]));
+    let plant = plant(random, count, degree, near, alphabet);
+    stop(random, plant, stopped)
 }
 
 /// Now and then a plant that fills a file, or just does not fit.
@@ -53,12 +62,15 @@ pub fn any_plant(random: &mut Random, alphabet: &[u32]) -> Plant {
         return some_plant(random, alphabet);
     }
     let (count, near) = (random.between(1200, 1400), random.pick(&[0, 50, 95]));
-    plant(random, count, 4, near, alphabet)
+    let plant = plant(random, count, 4, near, alphabet);
+    stop(random, plant, 10)
 }
 
-fn node(plant: &Plant, number: u32, door: bool) -> Node {
+/// A node of the plant as a file has it; the root is a door in any case.
+pub fn node(plant: &Plant, number: u32, door: bool) -> Node {
+    let root = number == plant.root;
     let edges = plant.nodes[&number].iter().copied().collect();
-    Node { number, door: door || number == plant.root, root: number == plant.root, edges }
+    Node { number, door: door || root, root, stopped: plant.stopped.contains(&number), edges }
 }
 
 /// The plant as one file, with some nodes marked as doors.

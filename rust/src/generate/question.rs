@@ -1,8 +1,8 @@
 //! Random whole questions: a plant, a true cut of it, a path.
 
-use super::path::{self, OR, STAR, THEN};
+use super::path::{self, or_of_ranges, OR, THEN};
 use super::plant;
-use crate::evaluation::part::{Node, Part};
+use crate::evaluation::part::Part;
 use crate::evaluation::plant::Plant;
 use crate::evaluation::words::{file, LABEL, PATH};
 use crate::random::Random;
@@ -30,27 +30,20 @@ fn small(random: &mut Random) -> Question {
     cut(random, plant, path)
 }
 
-const FULL: u32 = LABEL << 28 | 4095 << 12;
-
-/// An or of full ranges, starred or not.
-fn or_of_ranges(n: usize, star: bool) -> Vec<u32> {
-    let mut words = vec![FULL];
-    (1..n).for_each(|_| words.extend([FULL, OR]));
-    words.extend(star.then_some(STAR));
-    file(PATH, 0, n as u32, &words)
-}
-
 /// First replies that are long, many beyond their limit or beyond a bundle's.
 fn dear(random: &mut Random) -> Question {
     let alphabet = path::alphabet(random);
     let (sites, each) = (random.between(2, 10), random.between(2, 8));
     let plant = plant::plant(random, sites * each, 4, 0, &alphabet);
+    let stopped = random.pick(&[0, 0, 10]);
+    let plant = plant::stop(random, plant, stopped);
     let (n, star) = (random.between(8, 15), random.chance(80));
     let parts = plant::true_cut(random, &plant, sites, 0);
     Question { plant, parts, path: or_of_ranges(n, star) }
 }
 
-/// A plant too large for one file, cut where few links cross; some list more nodes than a bundle holds.
+/// A plant too large for one file, cut where few links cross; some list more nodes than a bundle holds. A single stopped node ends most of
+/// its long walks.
 fn large(random: &mut Random) -> Question {
     let alphabet = path::alphabet(random);
     let count = random.pick(&[2000, 3000, 4000, 9000, 9000]);
@@ -63,6 +56,9 @@ fn large(random: &mut Random) -> Question {
             links.insert((random.pick(&alphabet), random.pick(&numbers)));
         }
     }
+    if random.chance(25) {
+        plant.stopped.insert(random.pick(&numbers));
+    }
     let path = match random.chance(60) {
         true => or_of_ranges(1, true),
         false => path::path(random, &alphabet, 4),
@@ -73,7 +69,7 @@ fn large(random: &mut Random) -> Question {
 }
 
 /// A call list with a length near its limit: the root links to `wide` nodes of a second site, in thirteen states each, and one of these to
-/// `more` nodes of a third in one state.
+/// `more` nodes of a third in one state. Nodes without links may be stopped: they are called all the same.
 fn many_calls(random: &mut Random) -> Question {
     let wide = random.between(250, 280);
     let more = (4095 - 13 * wide) + random.below(3) - 2;
@@ -83,19 +79,19 @@ fn many_calls(random: &mut Random) -> Question {
     nodes.extend((0..wide as u32).map(|at| (second + at, BTreeSet::new())));
     nodes.extend((0..more as u32).map(|at| (third + at, BTreeSet::new())));
     nodes.insert(second + 3, (0..more as u32).map(|at| (8, third + at)).collect());
+    let bare = nodes.iter().filter(|(_, links)| links.is_empty()).map(|(number, _)| *number);
+    let stopped = bare.filter(|_| random.chance(5)).collect();
+    let plant = Plant { root: 5, nodes, stopped };
     let part = |site: u32, from: u32, to: u32| {
-        let node = |(number, links): (&u32, &BTreeSet<(u32, u32)>)| {
-            let edges = links.iter().copied().collect();
-            Node { number: *number, door: true, root: *number == 5, edges }
-        };
-        Part { site, nodes: nodes.range(from..to).map(node).collect() }
+        let node = |(number, _): (&u32, _)| plant::node(&plant, *number, true);
+        Part { site, nodes: plant.nodes.range(from..to).map(node).collect() }
     };
     let parts = vec![part(4, 0, second), part(0, second, third), part(11, third, 65_536)];
     let sevens = LABEL << 28 | 7 << 12 | 7;
     let mut words = vec![sevens];
     (1..12).for_each(|_| words.extend([sevens, OR]));
     words.extend([sevens, LABEL << 28 | 8 << 12 | 8, THEN, OR]);
-    Question { plant: Plant { root: 5, nodes }, parts, path: file(PATH, 0, 14, &words) }
+    Question { plant, parts, path: file(PATH, 0, 14, &words) }
 }
 
 /// Any question whose parts are parts: each within its limit.

@@ -9,4 +9,4 @@ unfolding lands
 returns c = cc
 
 pub landed-spec : {M : Type 1} → statement M
-landed-spec = tie.close (tie.spec (λ c κs. search needs) (λ c κs. search needs) returns)
+landed-spec = tie.close (tie.spec (λ c κs. search needs) (λ c κs. search needs) (λ c κs. search needs) returns)

@@ -18,7 +18,7 @@ seed-requires : tie.Need-seed-requires
 seed-requires c κs =
     let ws = words (c .before .before .before .before .before .before .before .before .args .whole .now) in
     let i = c .before .root-position .result in
-    (c .before .before .before .before .prepare .ensures .begun, root-node ws (c .before .before .before .before .before .before .before .before .pre .0) i (root-is ws (c .before .before .before .before .before .before .before .before .pre .0) i (c .before .root-position .ensures)), omega arith)
+    (c .before .before .before .before .prepare .ensures .begun, root-node ws i (root-is ws (c .before .before .before .before .before .before .before .before .pre .0) i (c .before .root-position .ensures)), omega arith)
 
 run-requires : tie.Need-run-requires
 run-requires c κs =

@@ -16,7 +16,7 @@ returns c =
     let a = o .before .before .before .before in
     let l = m .before .label .ensures ∙ ap labelOf (m .before .before .word-at .ensures) in
     rw (p .put162 .ensures, o .put16 .ensures)
-    (fill-edge _ (reads (a .args .a .letters)) _ _ (a .pre .0) (a .pre .1) _ (sym (p .before .before .before .before .before .before .is-edge .ensures) ∙ p .before .before .before .before .before .if1 .taken)
+    (fill-edge _ (reads (a .args .a .letters)) _ _ (a .pre .0) (a .pre .1) _ (sym (p .before .before .before .before .before .before .is-exit .ensures) ∙ p .before .before .before .before .before .if1 .taken)
     (λ q. m .mask .ensures q ∙ ap (λ (y : ℕ). reads (a .args .a .letters) y q) l))
 
 returns-2 : tie.Need-returns-2
@@ -25,7 +25,7 @@ returns-2 c =
     let o = p .before .before .before .before .before .before in
     let a = o .before .before .before .before in
     rw (p .put163 .ensures, o .put16 .ensures)
-    (fill-other _ (reads (a .args .a .letters)) _ _ (a .pre .0) (a .pre .1) (sym (p .before .before .before .is-edge .ensures) ∙ p .before .before .if1 .left))
+    (fill-other _ (reads (a .args .a .letters)) _ _ (a .pre .0) (a .pre .1) (sym (p .before .before .before .is-exit .ensures) ∙ p .before .before .if1 .left))
 
 pub fill-at-spec : {M : Type 1} → statement M
 fill-at-spec =

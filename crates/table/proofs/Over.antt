@@ -17,9 +17,9 @@ use Rattle.mowqachi.specs.Question.{first, stopped}
 use Rattle.mowqachi.specs.Demand.{AcceptedPath, Asked, Put, question, inOrder, First, at-once, later, Over}
 use Rattle.mowqachi.proofs.Owed.{owed}
 use Rattle.mowqachi.proofs.Demand.{demand-3}
-use Rattle.table.proofs.Asked.{words-by-test}
+use Rattle.table.proofs.Asked.{words-by-test, asking}
 use Rattle.table.proofs.Vectors.{ors, stars, edgesTo, doorsTo, fullRanges, dear}
-use Rattle.table.proofs.TwoSites.{Site, site-accepted, two, asking, two-small}
+use Rattle.table.proofs.TwoSites.{Site, site-accepted, two, two-small}
 
 -- row 15's two doors with their nine targets each, and the site of the targets, the first of them the root
 unfoldable pub row15 : List ℕ

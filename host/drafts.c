@@ -1,0 +1,29 @@
+#include "drafts.h"
+
+uint32_t draw(uint32_t below)
+{
+    static uint32_t state = 2463534242u;
+    state ^= state << 13;
+    state ^= state >> 17;
+    state ^= state << 5;
+    return state % below;
+}
+
+void put(struct draft *d, uint32_t w)
+{
+    for (int k = 0; k < 4; k++)
+        d->bytes[d->len++] = (uint8_t)(w >> 8 * k);
+}
+
+void end_file(struct draft *d, size_t from, uint32_t header)
+{
+    size_t end = d->len;
+    d->len = from;
+    put(d, header + (uint32_t)(end - from) / 4);
+    d->len = end;
+}
+
+struct span span_of(const struct draft *d)
+{
+    return (struct span){d->bytes, d->len};
+}

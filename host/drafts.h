@@ -1,0 +1,21 @@
+/* Files that a test writes word by word, and numbers drawn for them. */
+#ifndef DRAFTS_H
+#define DRAFTS_H
+
+#include "mowqachi.h"
+#include "words.h"
+
+struct draft {
+    size_t len;
+    uint8_t bytes[4 * MOWQACHI_BUNDLE_WORDS];
+};
+
+/* The same numbers in every run. */
+uint32_t draw(uint32_t below);
+
+void put(struct draft *d, uint32_t w);
+/* Ends the file that begins at byte `from`, where room was left for its header. */
+void end_file(struct draft *d, size_t from, uint32_t header);
+struct span span_of(const struct draft *d);
+
+#endif
