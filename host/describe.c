@@ -6,8 +6,9 @@
 
 /* What a line needs to know besides its word. */
 struct place {
-    struct nodes own;   /* the nodes of the file's node words */
-    unsigned labels;    /* label words so far */
+    struct nodes own;       /* the nodes of the file's node words */
+    struct nodes stopped;   /* the stopped nodes of the part beside it */
+    unsigned labels;        /* label words so far */
 };
 
 static void print_header(uint32_t w)
@@ -44,13 +45,15 @@ static void print_part_word(uint32_t w, const struct nodes *own)
         printf("%-12s label %u, target %u%s", "edge", label_of(w), node_of(w), has_node(own, node_of(w)) ? "" : ", outside");
 }
 
-static void print_reply_word(uint32_t w)
+static void print_reply_word(uint32_t w, const struct nodes *stopped)
 {
     switch (kind_of(w)) {
     case DOOR: printf("%-12s %u%s", "door", node_of(w), door_root(w) ? ", root" : ""); break;
     case ROW: printf("%-12s state %u", "row", state_of(w)); break;
     case REACH: printf("%-12s node %u, state %u", "reach", pair_node(w), state_of(w)); break;
-    case CALL: printf("%-12s node %u, state %u", "call", pair_node(w), state_of(w)); break;
+    case CALL:
+        printf("%-12s node %u, state %u%s", "call", pair_node(w), state_of(w), has_node(stopped, pair_node(w)) ? ", stopped" : "");
+        break;
     case ANSWER: printf("%-12s node %u", "answer", node_of(w)); break;
     default: printf("kind 0"); break;
     }
@@ -69,7 +72,7 @@ static void print_word(uint32_t w, size_t i, struct place *place)
     else if (kind_of(w) == NODE || kind_of(w) == EDGE)
         print_part_word(w, &place->own);
     else
-        print_reply_word(w);
+        print_reply_word(w, &place->stopped);
     printf("\n");
 }
 
@@ -79,11 +82,19 @@ static void print_mark(struct verdict v, size_t i)
         printf("       ^^^^^^^^  %u %s\n", v.number, number_name(v.number));
 }
 
-void print_words(struct span s, struct verdict v)
+static void collect_stopped(struct nodes *set, struct span part)
+{
+    for (size_t i = 1; i < words_of(part); i++)
+        if (kind_of(word_at(part, i)) == NODE && stopped_bit(word_at(part, i)))
+            add_node(set, node_of(word_at(part, i)));
+}
+
+void print_words(struct span s, struct verdict v, struct span part)
 {
     struct place place = {.labels = 0};
     size_t shown = words_of(s) < MOWQACHI_BUNDLE_WORDS ? words_of(s) : MOWQACHI_BUNDLE_WORDS;
     collect(&place.own, s, NODE);
+    collect_stopped(&place.stopped, part);
     for (size_t i = 0; i < shown; i++) {
         if (i > 0 && file_name(kind_of(word_at(s, i))) != NULL)
             printf("\n");
@@ -93,7 +104,7 @@ void print_words(struct span s, struct verdict v)
     if (shown < words_of(s))
         printf("       and %zu words more\n", words_of(s) - shown);
     for (size_t i = 4 * words_of(s); i < s.len; i++)
-        printf("%5zu  %02x        byte\n", words_of(s), s.bytes[i]);
+        printf("%5zu  %02x        byte\n", i, s.bytes[i]);
     if (v.at >= shown)
         print_mark(v, v.at);
 }

@@ -4,8 +4,9 @@
 
 #include "checks.h"
 
-/* The words of s, one a line, with the verdict's mark under its word, and a blank line ahead of every further header. */
-void print_words(struct span s, struct verdict v);
+/* The words of s, one a line, with the verdict's mark under its word, and a blank line ahead of every further header; calls of nodes that are
+   stopped in the part, if there is one, say so. Bytes behind the last word are numbered as bytes. */
+void print_words(struct span s, struct verdict v, struct span part);
 /* The last line of a report on so many words or bytes. */
 void print_verdict(struct verdict v, const char *unit, size_t count);
 /* An accepted path as an expression. */

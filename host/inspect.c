@@ -73,10 +73,10 @@ static struct span read_hex(const char *name, size_t width)
     return (struct span){bytes, len};
 }
 
-/* The report of one file: its words, what there is to say of an accepted one, and the verdict. */
-static unsigned report(struct span s, struct verdict v)
+/* The report of one file: its words, what there is to say of an accepted one, and the verdict. A call list may have a part beside it. */
+static unsigned report_beside(struct span s, struct verdict v, struct span part)
 {
-    print_words(s, v);
+    print_words(s, v, part);
     if (v.number == 0 && kind_of(word_at(s, 0)) == PATH)
         print_expression(s);
     if (v.number == 0 && kind_of(word_at(s, 0)) == PART)
@@ -84,6 +84,8 @@ static unsigned report(struct span s, struct verdict v)
     print_verdict(v, "word", words_of(s));
     return v.number;
 }
+
+static unsigned report(struct span s, struct verdict v) { return report_beside(s, v, (struct span){NULL, 0}); }
 
 static unsigned as_part(const struct span *in) { return report(in[0], check_file(in[0], PART)); }
 static unsigned as_whole(const struct span *in) { return report(in[0], check_whole(in[0])); }
@@ -143,11 +145,13 @@ static unsigned as_cut(const struct span *in)
     if (v.number != 0)
         return report(in[0], v);
     v = check_cuts(in[0], in[1], 0);
-    for (size_t i = 1; i < words_of(in[0]) && k < in[1].len; i++)
-        if (kind_of(word_at(in[0], i)) == NODE) {
-            printf("%5zu  %02x        node %u at site %u\n", k, in[1].bytes[k], node_of(word_at(in[0], i)), in[1].bytes[k]);
+    for (size_t i = 1; i < words_of(in[0]) && k < in[1].len; i++) {
+        uint32_t w = word_at(in[0], i);
+        if (kind_of(w) == NODE) {
+            printf("%5zu  %02x        node %u%s at site %u\n", k, in[1].bytes[k], node_of(w), stopped_bit(w) ? ", stopped," : "", in[1].bytes[k]);
             k++;
         }
+    }
     print_verdict(v, "byte", in[1].len);
     return v.number;
 }
@@ -159,7 +163,7 @@ static unsigned as_asked(const struct span *in)
         return report(in[0], part);
     if (path.number != 0)
         return report(in[1], path);
-    return report(in[2], calls.number != 0 ? calls : check_against(in[0], in[1], in[2]));
+    return report_beside(in[2], calls.number != 0 ? calls : check_against(in[0], in[1], in[2]), in[0]);
 }
 
 static const struct mode {

@@ -1,5 +1,5 @@
-/* The split link search, for a C11 or C++ host. docs/CALLS.md tells which call belongs where; document 01 is the law, with request 7 of
-   document 02, stopped nodes.
+/* The split link search, for a C11 or C++ host. docs/CALLS.md tells which call belongs where, docs/FORMATS.md what every file, trip and
+   number is: document 01, and of document 02 request 7, stopped nodes.
 
    Buffers. A length is in bytes. Any alignment will do. Inputs are only read, and may overlap one another. The output and the working
    buffer overlap nothing: neither each other nor an input. A pointer is never null: where a length is 0, pass the address of any object.

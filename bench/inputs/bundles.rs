@@ -50,6 +50,14 @@ pub fn to_the_last(size: usize) -> Vec<u32> {
     [file(7, 0, root), file(7, 1, other)].concat()
 }
 
+/// Two files: the root, whose one row calls every door of the other.
+pub fn all_at_once(size: usize) -> Vec<u32> {
+    let doors = (size / 2 - 3) as u32;
+    let root = [door(0, true), ROW].into_iter().chain((1..=doors).map(|x| reach(x, 0))).collect();
+    let other = (1..=doors).map(|x| door(x, false)).collect();
+    [file(7, 0, root), file(7, 1, other)].concat()
+}
+
 /// Sixteen files of doors with two rows of two reach words each, to any doors.
 pub fn random(size: usize) -> Vec<u32> {
     let (each, mut draws) = (((size - 16) / 16 / 7) as u32, Draws(size as u32));

@@ -91,6 +91,7 @@ pub fn call_list() -> Vec<Shape> {
         shape("chain to the door before", |n| bundle(bundles::chain_back(n))),
         shape("pairs one by one", |n| bundle(bundles::pairs_back(n))),
         shape("16 files at random", |n| bundle(bundles::random(n))),
+        shape("one row to all doors", |n| bundle(bundles::all_at_once(n))),
     ]
 }
 

@@ -46,7 +46,7 @@ impl Call {
         }
     }
 
-    pub fn evaluate(&self, room: Room) -> Outcome {
+    fn evaluate(&self, room: Room) -> Outcome {
         match self {
             Call::OldSearch { whole, path } => evaluation::old_search(whole, path, room),
             Call::Cut { whole, cuts, site } => evaluation::cut(whole, cuts, *site, room),
@@ -74,7 +74,7 @@ impl Call {
 
     /// Whether an accepted call would have another outcome if these of its stopped nodes were running.
     pub fn stopped_matter(&self, room: Room, outcome: &Outcome, among: impl Fn(u32) -> bool) -> bool {
-        outcome.is_ok() && self.running(among).is_some_and(|call| call.evaluate(room) != *outcome)
+        outcome.is_ok() && self.running(among).map_or(false, |call| call.evaluate(room) != *outcome)
     }
 
     fn make(&self, given: &[Guarded], out: &mut [u8], work: &mut [u8]) -> u32 {

@@ -58,7 +58,7 @@ fn word_by_derivatives(path: &Path, word: &[u32]) -> bool {
         derivative(&expression, &|position| path.label(position).holds(*label))
     };
     let left = word.iter().try_fold(path.expression.clone(), step);
-    left.is_some_and(|rest| has_empty_word(&rest))
+    left.map_or(false, |rest| has_empty_word(&rest))
 }
 
 /// The same by the states: some run over the word ends in an accepting one.

@@ -11,9 +11,10 @@ use borrow.Author.Tests.{eq-eqb, ne-eqb}
 use lib.Dec.{eqb}
 use lib.ListN.{length, getD, drop, length-drop, drop-of-length-le}
 use lib.Seq.{drop-drop, drop-nil}
+use Rattle.bundles.specs.Stretch.{clashing}
 use Rattle.sets.specs.Sets.{any, filter, member}
 use Rattle.sets.specs.States.{hasState}
-use Rattle.sets.specs.NodeSet.{hasNode, Added}
+use Rattle.sets.specs.NodeSet.{hasNode, Added, nodeSetBytes}
 use Rattle.sets.proofs.Tests.{either, same-test, eq-iff}
 use Rattle.sets.proofs.StateSets.{has-empty}
 use Rattle.sets.proofs.NodeSets.{nodes-none}
@@ -25,7 +26,7 @@ use Rattle.files.specs.Read.{readAt}
 use Rattle.files.specs.Outcome.{zeros}
 use Rattle.files.specs.Field.{kindOf, siteOf, labelsOf, sizeOf, nodeOf}
 use Rattle.files.specs.Refuse.{_unless_}
-use Rattle.files.specs.Bundle.{headers, headersCheck, clashing, twice}
+use Rattle.files.specs.Bundle.{headers, headersCheck, twice}
 use Rattle.files.proofs.Words.{words-length}
 use Rattle.files.proofs.Reading.{taken, ended, words-left, words-over}
 
@@ -77,9 +78,9 @@ nodesOf k ws = map nodeOf (filter (λ w. eqb (kindOf w) k) ws)
 pub record Repeating (k : ℕ) (s d : List ℕ) (x : Bool) (work : List ℕ) (at : ℕ) : Type 0 where
   pub same : stale (hasNode work 0) (nodesOf k (drop at (words s))) ≡ x
   pub long : length work ≡ length d
-  pub room : 8192 ≤ length d
+  pub room : nodeSetBytes ≤ length d
 
-pub repeating-first : (k : ℕ) (s : List ℕ) {d : List ℕ} → 8192 ≤ length d → d ≡ zeros (length d) → Repeating k s d (twice (nodesOf k (words s))) d 0
+pub repeating-first : (k : ℕ) (s : List ℕ) {d : List ℕ} → nodeSetBytes ≤ length d → d ≡ zeros (length d) → Repeating k s d (twice (nodesOf k (words s))) d 0
 repeating-first k s {d} h z =
     record { same = stale-none (hasNode d 0) (nodesOf k (words s)) (λ y. nodes-none (length d) 0 y z); long = refl; room = h }
 

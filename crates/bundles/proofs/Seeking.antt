@@ -9,28 +9,28 @@ use borrow.Author.Tests.{lt-ltb, le-ltb}
 use lib.Dec.{ltb, leb·suc-suc}
 use lib.ListN.{length, getD}
 use Rattle.sets.specs.Sets.{any}
-use Rattle.bundles.specs.Seek.{Sought, FirstThat}
+use Rattle.bundles.specs.Seek.{NoneBefore, FirstThat}
 
-pub sought-first : (p : ℕ → Bool) (ws : List ℕ) → Sought p ws 0
-sought-first p ws = record { within = omega arith; before = λ i l. absurd (omega arith) }
+pub none-first : (p : ℕ → Bool) (ws : List ℕ) → NoneBefore p ws 0
+none-first p ws = record { within = omega arith; before = λ i l. absurd (omega arith) }
 
-module _ {p : ℕ → Bool} {ws : List ℕ} {k : ℕ} (f : Sought p ws k) where
+module _ {p : ℕ → Bool} {ws : List ℕ} {k : ℕ} (f : NoneBefore p ws k) where
   module _ {w : ℕ} {b : Bool} (e : w ≡ getD ws k 0) (h : b ≡ p w) where
-    pub sought-more : b ≡ false → k < length ws → Sought p ws (k + 1)
-    sought-more n l = record { within = omega arith; before = below-more _ _ (f .before) (rw (← e, ← h) n) }
+    pub none-more : b ≡ false → k < length ws → NoneBefore p ws (k + 1)
+    none-more n l = record { within = omega arith; before = below-more _ _ (f .before) (rw (← e, ← h) n) }
 
-    pub sought-found : b ≡ true → FirstThat p ws k
-    sought-found n = record { sought = f; found = λ l. rw (← e, ← h) n }
+    pub first-found : b ≡ true → FirstThat p ws k
+    first-found n = record { none = f; found = λ l. rw (← e, ← h) n }
 
-  pub sought-none : length ws ≤ k → FirstThat p ws k
-  sought-none n = record { sought = f; found = λ l. absurd (omega arith) }
+  pub first-none : length ws ≤ k → FirstThat p ws k
+  first-none n = record { none = f; found = λ l. absurd (omega arith) }
 
 -- whether it is a place says whether any word passes
 pub first-any : (p : ℕ → Bool) (ws : List ℕ) (k : ℕ) → FirstThat p ws k → ltb k (length ws) ≡ any p ws
 first-any p [] k f = le-ltb k 0 (omega arith)
 first-any p (w ∷ ws) zero f = rw (f .found (omega arith)) (lt-ltb 0 (suc (length ws)) (omega arith))
 first-any p (w ∷ ws) (suc k) f =
-    rw (f .sought .before 0 (omega arith), leb·suc-suc) (first-any p ws k (record {
-      sought = record { within = omega (arith, f .sought .within); before = λ i l. f .sought .before (suc i) (omega arith) };
+    rw (f .none .before 0 (omega arith), leb·suc-suc) (first-any p ws k (record {
+      none = record { within = omega (arith, f .none .within); before = λ i l. f .none .before (suc i) (omega arith) };
       found = λ l. f .found (omega arith);
     }))

@@ -1,4 +1,4 @@
--- The first word that passes a test, by its place in a list.
+-- Inner. The first word that passes a test, by its place in a list.
 use mathlib.Core.Path.{_≡_}
 use mathlib.Core.Bool.{Bool, true, false}
 use mathlib.Core.List.{List}
@@ -6,11 +6,11 @@ use Prim.Native.Nat.{ℕ, _≤_, _<_}
 use lib.ListN.{length, getD}
 
 -- no word before place k passes
-pub record Sought (p : ℕ → Bool) (ws : List ℕ) (k : ℕ) : Type 0 where
+pub record NoneBefore (p : ℕ → Bool) (ws : List ℕ) (k : ℕ) : Type 0 where
   pub within : k ≤ length ws
   pub before : (i : ℕ) → i < k → p (getD ws i 0) ≡ false
 
--- and the word at k does, if k is a place: k is the first that passes, or the number of words
+-- k is the place of the first word that passes, or the number of words
 pub record FirstThat (p : ℕ → Bool) (ws : List ℕ) (k : ℕ) : Type 0 where
-  pub sought : Sought p ws k
+  pub none : NoneBefore p ws k
   pub found : k < length ws → p (getD ws k 0) ≡ true

@@ -4,6 +4,8 @@ use crate::overall::check_roots;
 use crate::overall::check_strays;
 use crate::overall::check_twice;
 use files::field::size;
+use files::limits::BUNDLE_WORDS;
+use files::limits::REPLY_WORDS;
 use files::refuse::check_header;
 use files::refuse::check_size;
 use files::refuse::first;
@@ -14,10 +16,12 @@ use replies::reply::check_reply;
 ghost use mathlib.Core.Path.{_≡_};
 ghost use Prim.Native.Nat.{_≤_};
 ghost use lib.ListN.{length, getD, drop};
+ghost use Rattle.sets.specs.NodeSet.{nodeSetBytes};
 ghost use Rattle.files.specs.Word.{words};
 ghost use Rattle.files.specs.Refuse.{_then_, sizeCheck};
-ghost use Rattle.files.specs.Bundle.{filesCheck, firstOverCheck, secondOverCheck, firstBundleCheck, secondBundleCheck};
-ghost use Rattle.bundles.specs.Stretch.{headCheck, kindIn, bodyIn, nextOr, stretchOf};
+ghost use Rattle.files.specs.Bundle.{firstOverCheck, secondOverCheck};
+ghost use Rattle.files.specs.Limits.{bundleWords};
+ghost use Rattle.bundles.specs.Stretch.{headCheck, kindIn, bodyIn, filesIn, overIn, bundleIn, nextOr, stretchOf};
 
 // Which replies a bundle is of.
 pub enum Trip {
@@ -57,7 +61,7 @@ fn check_head(kind: u32, n: usize, h: u32) -> u32
     let len = size(h) as usize;
     first(
         check_header(kind, true, true, len, h),
-        refuse(4, (0 < len) & (len <= 4096) & (len <= n)),
+        refuse(4, (0 < len) & (len <= REPLY_WORDS) & (len <= n)),
     )
 }
 
@@ -87,7 +91,7 @@ pub fn read_file(stretch: &[u8], trip: Trip) -> Stretch
 
 // The bundle's files one after another.
 fn check_files(bundle: &[u8], trip: Trip) -> u32
-    ensures { λ r. ⌜ r ≡ filesCheck (kindIn trip) (bodyIn trip) (length (words (now (bundle .entry)))) (words (now (bundle .entry))) ⌝ }
+    ensures { λ r. ⌜ r ≡ filesIn trip (words (now (bundle .entry))) ⌝ }
 {
     let count = bundle.len() / 4;
     let mut start = 0;
@@ -106,11 +110,10 @@ fn check_files(bundle: &[u8], trip: Trip) -> u32
 }
 
 // 2, then file by file.
-fn check_bundle(bundle: &[u8], trip: Trip) -> u32
-    ensures { λ r. ⌜ r ≡ (sizeCheck 8192 (now (bundle .entry))
-        then filesCheck (kindIn trip) (bodyIn trip) (length (words (now (bundle .entry)))) (words (now (bundle .entry)))) ⌝ }
+fn check_each(bundle: &[u8], trip: Trip) -> u32
+    ensures { λ r. ⌜ r ≡ (sizeCheck bundleWords (now (bundle .entry)) then filesIn trip (words (now (bundle .entry)))) ⌝ }
 {
-    let n = check_size(bundle, 8192);
+    let n = check_size(bundle, BUNDLE_WORDS);
     if n != 0 {
         return n;
     }
@@ -118,8 +121,8 @@ fn check_bundle(bundle: &[u8], trip: Trip) -> u32
 }
 
 // Over all files of a bundle of first replies: 12, 7, 13, 14.
-fn check_first_files(bundle: &[u8], work: &mut [u8]) -> u32
-    requires { ⌜ 8192 ≤ length (now work) ⌝ }
+fn check_first_over(bundle: &[u8], work: &mut [u8]) -> u32
+    requires { ⌜ nodeSetBytes ≤ length (now work) ⌝ }
     ensures { λ r. ⌜ r ≡ firstOverCheck (words (now (bundle .entry))) ⌝ }
     ensures { λ _. ⌜ length (now (work .exit)) ≡ length (now (work .entry)) ⌝ }
 {
@@ -132,8 +135,8 @@ fn check_first_files(bundle: &[u8], work: &mut [u8]) -> u32
 }
 
 // Over all files of a bundle of second replies: 12, 13.
-fn check_second_files(bundle: &[u8], work: &mut [u8]) -> u32
-    requires { ⌜ 8192 ≤ length (now work) ⌝ }
+fn check_second_over(bundle: &[u8], work: &mut [u8]) -> u32
+    requires { ⌜ nodeSetBytes ≤ length (now work) ⌝ }
     ensures { λ r. ⌜ r ≡ secondOverCheck (words (now (bundle .entry))) ⌝ }
     ensures { λ _. ⌜ length (now (work .exit)) ≡ length (now (work .entry)) ⌝ }
 {
@@ -141,28 +144,26 @@ fn check_second_files(bundle: &[u8], work: &mut [u8]) -> u32
     first(check_headers(bundle), twice)
 }
 
-// The number of the refusal of a bundle of first replies, 0 where it is one.
-pub fn check_first_bundle(bundle: &[u8], work: &mut [u8]) -> u32
-    requires { ⌜ 8192 ≤ length (now work) ⌝ }
-    ensures { λ r. ⌜ r ≡ (sizeCheck 8192 (now (bundle .entry)) then firstBundleCheck (words (now (bundle .entry)))) ⌝ }
+fn check_over(bundle: &[u8], trip: Trip, work: &mut [u8]) -> u32
+    requires { ⌜ nodeSetBytes ≤ length (now work) ⌝ }
+    ensures { λ r. ⌜ r ≡ overIn trip (words (now (bundle .entry))) ⌝ }
     ensures { λ _. ⌜ length (now (work .exit)) ≡ length (now (work .entry)) ⌝ }
 {
-    let n = check_bundle(bundle, Trip::First);
-    if n != 0 {
-        return n;
+    match trip {
+        Trip::First => check_first_over(bundle, work),
+        Trip::Second => check_second_over(bundle, work),
     }
-    check_first_files(bundle, work)
 }
 
-// The number of the refusal of a bundle of second replies, 0 where it is one.
-pub fn check_second_bundle(bundle: &[u8], work: &mut [u8]) -> u32
-    requires { ⌜ 8192 ≤ length (now work) ⌝ }
-    ensures { λ r. ⌜ r ≡ (sizeCheck 8192 (now (bundle .entry)) then secondBundleCheck (words (now (bundle .entry)))) ⌝ }
+// The number of the refusal of a bundle of a trip's replies, 0 where it is one.
+pub fn check_bundle(bundle: &[u8], trip: Trip, work: &mut [u8]) -> u32
+    requires { ⌜ nodeSetBytes ≤ length (now work) ⌝ }
+    ensures { λ r. ⌜ r ≡ (sizeCheck bundleWords (now (bundle .entry)) then bundleIn trip (words (now (bundle .entry)))) ⌝ }
     ensures { λ _. ⌜ length (now (work .exit)) ≡ length (now (work .entry)) ⌝ }
 {
-    let n = check_bundle(bundle, Trip::Second);
+    let n = check_each(bundle, trip);
     if n != 0 {
         return n;
     }
-    check_second_files(bundle, work)
+    check_over(bundle, trip, work)
 }

@@ -8,28 +8,31 @@ use files::field::node;
 use files::field::site;
 use files::field::size;
 use files::refuse::refuse;
-use files::reply::door_root;
-use files::reply::is_door;
+use files::reply::is_door_of;
 use files::reply::is_reach;
 use files::word::word_at;
+use kinds::count::Mark;
+use kinds::count::count_kind;
 use sets::node_set::add;
 use sets::node_set::has as has_node;
 use sets::states::has as has_site;
 use sets::states::with;
 ghost use mathlib.Core.Path.{_≡_};
-ghost use mathlib.Core.Bool.{not, _&&_};
+ghost use mathlib.Core.Bool.{not};
 ghost use mathlib.Core.List.{map};
 ghost use Prim.Native.Nat.{suc, _-_, _≤_};
 ghost use lib.Dec.{eqb};
 ghost use lib.ListN.{length};
 ghost use Rattle.sets.specs.Sets.{any, filter};
+ghost use Rattle.sets.specs.NodeSet.{nodeSetBytes};
 ghost use Rattle.files.specs.Word.{words};
 ghost use Rattle.files.specs.Refuse.{_unless_};
 ghost use Rattle.files.specs.Outcome.{zeros};
-ghost use Rattle.files.specs.Field.{kindOf, sizeOf, nodeOf, pairOf, pairNode, doorRootOf};
-ghost use Rattle.files.specs.Reply.{isDoorWord, roots};
-ghost use Rattle.files.specs.Bundle.{headers, headersCheck, twice, clashing, doorOf, strays};
+ghost use Rattle.files.specs.Field.{kindOf, sizeOf, nodeOf, pairOf, pairNode};
+ghost use Rattle.files.specs.Reply.{roots};
+ghost use Rattle.files.specs.Bundle.{headers, headersCheck, twice, strays};
 ghost use Rattle.bundles.specs.Seek.{FirstThat};
+ghost use Rattle.bundles.specs.Stretch.{clashing};
 
 // Whether a header's site was seen, or its n is another.
 fn clashes(sites: u16, n: u32, h: u32) -> bool
@@ -65,42 +68,16 @@ pub fn check_headers(bundle: &[u8]) -> u32
     0
 }
 
-fn is_root(w: u32) -> bool
-    ensures { λ r. ⌜ r ≡ (isDoorWord w && doorRootOf w) ⌝ }
-{
-    is_door(w) & door_root(w)
-}
-
-fn count_roots(bundle: &[u8]) -> usize
-    ensures { λ r. ⌜ r ≡ length (roots (words (now (bundle .entry)))) ⌝ }
-{
-    let mut count = 0;
-    let mut cur = Cursor { at: 0 };
-    loop {
-        match cur.read(bundle) {
-            Step::Word(w, next) => {
-                cur = next;
-                if is_root(w) {
-                    count += 1;
-                }
-            }
-            Step::End => {
-                return count;
-            }
-        }
-    }
-}
-
 // 7: not one root.
 pub fn check_roots(bundle: &[u8]) -> u32
     ensures { λ r. ⌜ r ≡ (7 unless eqb (length (roots (words (now (bundle .entry))))) 1) ⌝ }
 {
-    refuse(7, count_roots(bundle) == 1)
+    refuse(7, count_kind(bundle, 0, 8, Mark::Bit16) == 1)
 }
 
 // Whether a node stands in two words of kind k; the nodes seen are a set in the cleared working buffer.
 fn has_twice(bundle: &[u8], work: &mut [u8], k: u32) -> bool
-    requires { ⌜ 8192 ≤ length (now work) ⌝ }
+    requires { ⌜ nodeSetBytes ≤ length (now work) ⌝ }
     requires { ⌜ now work ≡ zeros (length (now work)) ⌝ }
     ensures { λ r. ⌜ r ≡ twice (map nodeOf (filter (λ w. eqb (kindOf w) k) (words (now (bundle .entry))))) ⌝ }
     ensures { λ _. ⌜ length (now (work .exit)) ≡ length (now (work .entry)) ⌝ }
@@ -127,7 +104,7 @@ fn has_twice(bundle: &[u8], work: &mut [u8], k: u32) -> bool
 
 // 13: a node in two words of kind k.
 pub fn check_twice(bundle: &[u8], work: &mut [u8], k: u32) -> u32
-    requires { ⌜ 8192 ≤ length (now work) ⌝ }
+    requires { ⌜ nodeSetBytes ≤ length (now work) ⌝ }
     ensures { λ r. ⌜ r ≡ (13 unless not (twice (map nodeOf (filter (λ w. eqb (kindOf w) k) (words (now (bundle .entry))))))) ⌝ }
     ensures { λ _. ⌜ length (now (work .exit)) ≡ length (now (work .entry)) ⌝ }
 {
@@ -140,12 +117,6 @@ fn reach_node(w: u32) -> u32
     ensures { λ r. ⌜ r ≡ pairNode (pairOf w) ⌝ }
 {
     w % 0x10_0000 / 16
-}
-
-fn is_door_of(w: u32, x: u32) -> bool
-    ensures { λ r. ⌜ r ≡ doorOf x w ⌝ }
-{
-    is_door(w) & (x == node(w))
 }
 
 // The index of the first reach word whose node is no door, or the number of words: there the scan stops.
@@ -163,7 +134,7 @@ fn first_stray(bundle: &[u8]) -> usize
                 if k == count {
                     break 'words;
                 }
-                if is_door_of(word_at(bundle, k), x) {
+                if is_door_of(x, word_at(bundle, k)) {
                     break;
                 }
                 k += 1;

@@ -85,7 +85,7 @@ module _ (test : ℕ → Bool) where
       passing : (p : Block × ℕ) → Mem p (filter (λ p. test (p .1)) (sited (blocks ws) cuts)) ↔ (Mem p (sited (blocks ws) cuts) × T (test (p .1)))
       passing p = filter-iff (λ p. test (p .1)) p (sited (blocks ws) cuts)
 
-  -- and nothing else
+  -- what is chosen was there
   pub choice-subset : {on : Bool} {ws cuts out : List ℕ} → Choice on ws cuts out → out ⊆ ws
   choice-subset end z m = m
   choice-subset (taken {w = w} n t r) z m = subset-cons w (choice-subset r) z m

@@ -46,7 +46,7 @@ module _ (f cuts : List ℕ) (p : partCheck f ≡ 0) (c : Fit (drop 1 f) cuts) (
   unfolding cut
   cut-site = header 1 s 0 (suc (length body)) (omega arith) h (omega arith) small .site-is
 
-  -- its blocks are those of its site, marked anew
+  -- the part's blocks are those of its site, marked anew
   pub cut-blocks : (b : Block) → Mem b (blocks (drop 1 (cut f cuts s))) ↔ ((a : Block) × Mem (a, s) (sited (blocks (drop 1 f)) cuts) × (remark (elsewhere f cuts s) a ≡ b))
   unfolding cut
   cut-blocks b =

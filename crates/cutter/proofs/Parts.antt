@@ -23,6 +23,7 @@ use Rattle.files.proofs.Fields.{Node}
 use Rattle.files.proofs.Blocks.{Block, number, blocks, block-node, block-edge, nodes-iff, marked-iff, edges-block, block-edges}
 use Rattle.files.proofs.Parts.{nodes-ascending, whole-part, part-some}
 use Rattle.files.specs.Cuts.{cutCheck}
+use Rattle.files.specs.Limits.{partWords, workBytes}
 use Rattle.cutter.specs.Cut.{remarked, elsewhere, cut, cutCall}
 use Rattle.cutter.proofs.Sited.{Fit, sited, sited-block}
 use Rattle.cutter.proofs.Choose.{chosen-iff}
@@ -110,13 +111,13 @@ module _ (f cuts : List ℕ) (p : partCheck f ≡ 0) (c : Fit (drop 1 f) cuts) (
 -- The call
 
 -- written as bytes, an accepted whole is cut for every site, whatever the accepted cut list
-pub cut-call : (out work : ℕ) (f cuts : List ℕ) (site : ℕ) → 4 * 4096 ≤ out → 32768 ≤ work
-    → ((w : ℕ) → Mem w f → w < 2 ^ 32) → length f ≤ 4096 → wholeCheck f ≡ 0 → cutCheck (drop 1 f) cuts site ≡ 0
+pub cut-call : (out work : ℕ) (f cuts : List ℕ) (site : ℕ) → 4 * partWords ≤ out → workBytes ≤ work
+    → ((w : ℕ) → Mem w f → w < 2 ^ 32) → length f ≤ partWords → wholeCheck f ≡ 0 → cutCheck (drop 1 f) cuts site ≡ 0
     → cutCall out work (bytesOf f) cuts site ≡ accepted (cut f cuts site)
 unfolding cutCall
 cut-call out work f cuts site h k v l c d =
     let p = whole-part f c in
     let (fit, small, s) = cuts-fit (drop 1 f) cuts site d in
-    rw (words-bytes f v) (ap (λ c. outcome c 4096 (cut f cuts site))
-    (then-zero (room-checked 4096 out work h k) (then-zero (size-checked 4096 f (part-some f p) l) (then-zero c d)))
-    ∙ outcome-gives 4096 (cut f cuts site) (omega (arith, cut-length f cuts p fit site s)))
+    rw (words-bytes f v) (ap (λ c. outcome c partWords (cut f cuts site))
+    (then-zero (room-checked partWords out work h k) (then-zero (size-checked partWords f (part-some f p) l) (then-zero c d)))
+    ∙ outcome-gives partWords (cut f cuts site) (omega (arith, cut-length f cuts p fit site s)))

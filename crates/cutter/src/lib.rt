@@ -1,2 +1,5 @@
 // The cutter: a site's part of a whole plant.
-pub mod cutting;
+pub mod call;
+mod marks;
+pub mod place;
+mod targets;

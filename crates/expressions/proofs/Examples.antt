@@ -7,8 +7,9 @@ use Prim.Native.Nat.{ℕ}
 use lib.Dec.{eqb}
 use Rattle.expressions.specs.Expr.{Expr, letter, then, or, star, Matches}
 use Rattle.expressions.specs.Positions.{next, accepts}
-use Rattle.expressions.specs.Postfix.{put-letter, make-then, make-or, make-star, read, items, compute}
+use Rattle.expressions.specs.Postfix.{put-letter, make-then, make-or, make-star, read, items}
 use Rattle.expressions.proofs.Glushkov.{glushkov}
+use Rattle.expressions.specs.Fragments.{compute}
 
 abbrev e : Expr
 e = then (star (or (letter 1) (letter 2))) (letter 3)
@@ -35,7 +36,7 @@ after-3 = refl
 ends : map (accepts e) states ≡ false ∷ false ∷ false ∷ true ∷ []
 ends = refl
 
--- the same row after 1, as the stack of parts has it
+-- the row after 1, as the stack of fragments has it
 computed-1 : Option·map (λ t. map (t .follows 1) states) (compute (items e) [] [] (λ q p. false)) ≡ some (false ∷ true ∷ true ∷ true ∷ [])
 computed-1 = refl
 

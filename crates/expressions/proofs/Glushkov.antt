@@ -80,7 +80,7 @@ module _ (reads : ℕ → ℕ → Bool) where
     then-whole [] (x ∷ v) n r = (r .0, search join, r .2, then-b v (r .0) (r .1) .0 (r .3))
     then-whole (x ∷ u) v r s = (r .0, search join, r .2, then-rest u v (r .0) (r .3) s)
 
-    -- and the way back: w is split where its positions cross from a to b
+    -- the way back: w is split where its positions cross from a to b
     rest-then : (w : List ℕ) (q : ℕ) → Within a k q → Rest (then a b) k q w
         → (u : List ℕ) × (v : List ℕ) × (w ≡ u ++ v) × Rest a k q u × Whole b m v
     rest-then [] q i l =
@@ -130,7 +130,7 @@ module _ (reads : ℕ → ℕ → Bool) where
     star-whole ((x ∷ u) ∷ us) ws =
         let r = ws .0 in (r .0, r .1, r .2, star-rest u (concat us) (r .0) (r .3) (star-whole us (ws .1)))
 
-    -- and the way back: w is split where a word of a ends and the next one begins
+    -- the way back: w is split where a word of a ends and the next one begins
     rest-star : (w : List ℕ) (q : ℕ) → Rest (star a) k q w
         → (u : List ℕ) × (us : List (List ℕ)) × (w ≡ u ++ concat us) × Rest a k q u × All (Whole a k) us
     rest-star [] q l = ([], [], refl, l, tt)

@@ -29,7 +29,7 @@ module _ (is : List Item) (ls : List ℕ) (good : ℕ → Type 0) (rest : (s : L
   onto : (s : List Expr) {j m : ℕ} → good j → j ≡ length s → lettersOn s + length ls ≡ m → (e : Expr) × (read is s ≡ some e) × (count e ≡ m)
   onto s h i c = let r = rest s (rw i at h) in (r .0, r .1, r .2 ∙ c)
 
-  -- so do they with one more word w in front: `label` says whether it is a label word, else k is its operator
+  -- with one more word w in front they make one too: `label` says whether it is a label word, else k is its operator
   one : (w : ℕ) (label : Bool) (k : ℕ) → k < 4 → (s : List Expr)
       → let t : ℕ = cond label 0 (getD (0 ∷ 2 ∷ 2 ∷ 1 ∷ []) k 0) in
       t ≤ length s → good (suc (length s - t))

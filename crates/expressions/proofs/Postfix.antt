@@ -6,16 +6,17 @@ use mathlib.Core.Option.{some, Option·map, map-eq-some-iff}
 use Prim.Native.Nat.{ℕ, _+_}
 use lib.ListN.{length, length-append}
 use Rattle.expressions.specs.Expr.{Expr, empty, letter, then, or, star, letters, count}
-use Rattle.expressions.specs.Postfix.{Item, put-empty, put-letter, make-then, make-or, make-star, read, items, Tables, link, compute, wordsOf, partsOf, tableOf, tables}
+use Rattle.expressions.specs.Postfix.{Item, put-empty, put-letter, make-then, make-or, make-star, read, items}
 use Rattle.expressions.proofs.Ranges.{length-letters}
+use Rattle.expressions.specs.Fragments.{Construction, link, compute, wordsOf, fragmentsOf, tableOf, constructionOf}
 
 offset : (a : Expr) (ws : List ℕ) → length (ws ++ letters a) ≡ length ws + count a
 offset a ws = simp (length-append, length-letters a)
 
 ruleset by-stack = (tableOf, link, offset, append-nil, append-assoc, or-false, or-assoc)
 
--- At any stack of expressions: `compute` holds their label words, their parts and their table.
-pub computes : (is : List Item) (s : List Expr) → compute is (wordsOf s) (partsOf s) (tableOf s) ≡ Option·map tables (read is s)
+-- At any stack of expressions: `compute` holds their label words, their fragments and their table.
+pub computes : (is : List Item) (s : List Expr) → compute is (wordsOf s) (fragmentsOf s) (tableOf s) ≡ Option·map constructionOf (read is s)
 computes [] [] = refl
 computes [] (e ∷ []) = refl
 computes [] (b ∷ a ∷ s) = refl
@@ -31,11 +32,11 @@ computes (make-star ∷ is) [] = refl
 computes (make-star ∷ is) (a ∷ s) = simp by-stack (computes is (star a ∷ s))
 
 -- From the empty stack: the tables are those of the expression, and there are none where no expression is read.
-pub compute-read : (is : List Item) → compute is [] [] (λ q p. false) ≡ Option·map tables (read is [])
+pub compute-read : (is : List Item) → compute is [] [] (λ q p. false) ≡ Option·map constructionOf (read is [])
 compute-read is = computes is []
 
-pub computed : (is : List Item) (t : Tables) → compute is [] [] (λ q p. false) ≡ some t → (e : Expr) × (read is [] ≡ some e) × (tables e ≡ t)
-computed is t h = map-eq-some-iff tables (read is []) .0 (sym (compute-read is) ∙ h)
+pub computed : (is : List Item) (t : Construction) → compute is [] [] (λ q p. false) ≡ some t → (e : Expr) × (read is [] ≡ some e) × (constructionOf e ≡ t)
+computed is t h = map-eq-some-iff constructionOf (read is []) .0 (sym (compute-read is) ∙ h)
 
 -- Every expression is read from its items.
 read-on : (e : Expr) (is : List Item) (s : List Expr) → read (items e ++ is) s ≡ read is (e ∷ s)

@@ -2,13 +2,12 @@
 use mathlib.Core.Path.{_≡_, refl}
 use mathlib.Core.Logic.{inl, inr}
 use mathlib.Core.Bool.{Bool}
-use mathlib.Core.List.{List, [], _∷_}
 use Prim.Native.Nat.{ℕ, zero, suc, _+_, _≤_, _<_}
 use native.Mathlib.Omega.{arith}
 use lib.Dec.{T, eqb→eq}
 use lib.ListN.{length, length-append}
 use Rattle.expressions.specs.Expr.{Expr, empty, letter, then, or, star, letters, count}
-use Rattle.expressions.specs.Positions.{first, last, follow, next, step, Run}
+use Rattle.expressions.specs.Positions.{first, last, follow, next, step}
 use Rattle.sets.proofs.Tests.{or-iff, and-iff}
 
 -- p is a position of e, before which k letters stand
@@ -56,10 +55,6 @@ next-range e (suc q) p t = omega (arith, follow-within e 0 (suc q) p t)
 -- A step leads to a position, never to 0.
 pub step-range : (holds : ℕ → ℕ → Bool) (e : Expr) (q a p : ℕ) → T (step holds e q a p) → (1 ≤ p) × (p ≤ count e)
 step-range holds e q a p t = next-range e q p ((simp and-iff at t) .0)
-
-pub run-range : (holds : ℕ → ℕ → Bool) (e : Expr) (q : ℕ) (w : List ℕ) (p : ℕ) → q ≤ count e → Run holds e q w p → p ≤ count e
-run-range holds e q [] p h r = omega arith
-run-range holds e q (a ∷ w) p h r = run-range holds e (r .0) w p (step-range holds e q a (r .0) (r .1) .1) (r .2)
 
 -- The letters are as many as the count says.
 pub length-letters : (e : Expr) → length (letters e) ≡ count e

@@ -1,4 +1,4 @@
--- Which labels a label word holds, and the expression of a path's words. Document 01, "Words" (groups) and "Path".
+-- Believed. Which labels a label word holds, and the expression of a path's words. Document 01, "Words" (groups) and "Path".
 use Prim.Native.Nat.{ℕ, zero, suc}
 use mathlib.Core.Bool.{Bool, cond, _&&_}
 use mathlib.Core.List.{List, [], _∷_, map}

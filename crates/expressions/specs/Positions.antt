@@ -1,4 +1,4 @@
--- The position automaton (Glushkov) of a path expression. A position is a letter of the expression, counted from 1
+-- Believed. The position automaton (Glushkov) of a path expression. A position is a letter of the expression, counted from 1
 -- from left to right; where k letters stand before a part e, the positions of e are k + 1 to k + count e.
 -- The states of the automaton are 0, its start, and the positions. Assumes nothing.
 use mathlib.Core.Path.{_≡_}

@@ -51,29 +51,6 @@ padded-more n ws w h =
     let f : n - 4 * length (ws ++ w ∷ []) ≡ m = simp length-append (omega arith) in
     rw (e, f) (put-next ws (zeros m) 0 0 0 0 w)
 
--- the first k words of s are written to out, which was d, and zeros
-pub record Copying (s d out : List ℕ) (k : ℕ) : Type 0 where
-  pub is : out ≡ padded (length d) (take k (words s))
-  pub room : 4 * length (words s) ≤ length d
-  pub same : length out ≡ length d
-
-pub copying-none : {s d : List ℕ} → d ≡ zeros (length d) → 4 * length (words s) ≤ length d → Copying s d d 0
-copying-none {s} {d} z h = record { is = z ∙ sym (padded-none (length d)); room = h; same = refl }
-
-pub copying-more : {s d out out′ : List ℕ} {k w : ℕ} {c : Cursor} {r : Step} → Copying s d out k → r ≡ Word w c → r ≡ readAt s k → out′ ≡ putWord out k w → length out′ ≡ length out
-    → Copying s d out′ (c .at)
-copying-more {s} {d} {k = k} {w = w} f a q e l =
-    let t = taken {s = s} {k = k} a q in
-    let n : length (take k (words s)) ≡ k = length-take-le k (words s) (omega arith) in
-    record {
-      is = e ∙ rw (f .is, t .done, ← padded-more (length d) (take k (words s)) w (omega arith), n);
-      room = f .room;
-      same = l ∙ f .same;
-    }
-
-pub copying-all : {s d out : List ℕ} {k : ℕ} {r : Step} → Copying s d out k → r ≡ End → r ≡ readAt s k → out ≡ padded (length d) (words s)
-copying-all {s} {d} {k = k} f a q = f .is ∙ ap (padded (length d)) (rw (ended {s = s} {k = k} a q .none, append-nil) at (take-append-drop k (words s)))
-
 -- zeros are as many as they are
 pub zeros-all : (n : ℕ) {x : List ℕ} → x ≡ zeros n → x ≡ zeros (length x)
 zeros-all n e = rw (e, length-replicate)

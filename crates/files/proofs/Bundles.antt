@@ -21,6 +21,7 @@ use Rattle.files.proofs.Ordered.{calls-accepted}
 use Rattle.files.proofs.Replies.{reach-states}
 use Rattle.files.proofs.Rows.{Stops}
 use Rattle.files.proofs.Files.{File, Made, header-checked, header-kind, chosen-files, files-accepted, headers-read, files-length, twice-iff, headers-accepted}
+use Rattle.files.specs.Limits.{replyWords}
 
 -- files of one kind, with different sites and the same n
 pub record Replies (kind : ℕ) (body : ℕ → List ℕ → ℕ) (n : ℕ) (fs : List (List ℕ)) : Type 0 where
@@ -131,7 +132,7 @@ file-states f c w m t =
     reach-states (labelsOf (getD f 0 0)) start (drop 1 f) (c .checked) w (file-reach replyCheck f c w m t) t
 
 -- a call list of ascending pairs with states up to its n is accepted
-pub calls-made : (n : ℕ) (cs : List ℕ) → n < 16 → length cs < 4096 → Ascending cs → ((c : ℕ) → Mem c cs → (c < 2 ^ 20) × (pairState c ≤ n))
+pub calls-made : (n : ℕ) (cs : List ℕ) → n < 16 → length cs < replyWords → Ascending cs → ((c : ℕ) → Mem c cs → (c < 2 ^ 20) × (pairState c ≤ n))
     → callsCheck (file 11 0 n (map callWord cs)) ≡ 0
 calls-made n cs l h a b =
     let r = header 11 0 n (suc (length (map callWord cs))) (omega arith) (omega arith) l (omega (arith, length-map cs callWord)) in

@@ -12,6 +12,7 @@ use borrow.Author.Tests.{ltb-true, le-leb, lt-leb}
 use Rattle.sets.proofs.Tests.{either, passed, and-iff, le-iff, eq-iff, same-test}
 use Rattle.files.specs.Refuse.{_then_, _unless_, roomCheck}
 use Rattle.files.specs.Outcome.{refused, accepted, outcome, leaves}
+use Rattle.files.specs.Limits.{workBytes}
 
 pub then-iff : (a b : ℕ) → ((a then b) ≡ 0) ↔ ((a ≡ 0) × (b ≡ 0))
 then-iff zero b = (λ e. (refl, e), λ p. p .1)
@@ -37,7 +38,7 @@ refused-first (suc a) b h e = e
 pub passed-first : (a b : ℕ) {n r : ℕ} → n ≡ 0 → n ≡ a → r ≡ b → r ≡ (a then b)
 passed-first a b h e f = rw (← e, h) f
 
--- the same of two checks before the next
+-- two checks a then b before the next: a refusal stands, and an acceptance goes on
 pub refused-then : (a b d : ℕ) {n : ℕ} → (n ≡ 0 → ⊥) → n ≡ (a then b) → n ≡ (a then (b then d))
 refused-then a b d h e = rw (← then-assoc a b d) (refused-first (a then b) d h e)
 
@@ -66,7 +67,7 @@ room-same limit out =
     same-test (λ t. le-iff (4 * limit) out .1 (omega (arith, le-iff limit (out / 4) .0 t))) (λ t. le-iff limit (out / 4) .1 (omega (arith, le-iff (4 * limit) out .0 t)))
 
 -- long enough buffers
-pub room-checked : (limit out work : ℕ) → 4 * limit ≤ out → 32768 ≤ work → roomCheck limit out work ≡ 0
+pub room-checked : (limit out work : ℕ) → 4 * limit ≤ out → workBytes ≤ work → roomCheck limit out work ≡ 0
 room-checked limit out work h k = simp checks (h, k)
 
 -- accepted inputs give the result, or 15 if it is over its limit

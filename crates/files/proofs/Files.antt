@@ -18,11 +18,12 @@ use Rattle.files.specs.Refuse.{headerCheck}
 use Rattle.files.specs.Bundle.{filesCheck, headers, twice, headersCheck}
 use Rattle.files.proofs.Checks.{checks}
 use Rattle.files.proofs.Fields.{Header, header}
+use Rattle.files.specs.Limits.{replyWords, finalWords}
 
 -- a file of a kind that passes its own check by itself; `body` checks the words behind the header
 pub record File (kind : ℕ) (body : ℕ → List ℕ → ℕ) (f : List ℕ) : Type 0 where
   pub some : 0 < length f
-  pub short : length f ≤ 4096
+  pub short : length f ≤ replyWords
   pub head : headerCheck kind true true (length f) (getD f 0 0) ≡ 0
   pub checked : body (getD f 0 0) (drop 1 f) ≡ 0
 
@@ -32,7 +33,7 @@ pub header-checked : (s l : Bool) (kind site n size h : ℕ) → Header kind sit
 header-checked s l kind site n size h r p q = simp (checks, r .site-is, r .labels-is) ((((r .kind-is, r .zeros), p), q), r .size-is)
 
 -- a made file is of 32-bit words if its body is
-pub file-words : (kind site n : ℕ) (ws : List ℕ) → kind < 16 → site < 16 → n < 16 → length ws < 8192
+pub file-words : (kind site n : ℕ) (ws : List ℕ) → kind < 16 → site < 16 → n < 16 → length ws < finalWords
     → ((w : ℕ) → Mem w ws → w < 2 ^ 32) → (w : ℕ) → Mem w (file kind site n ws) → w < 2 ^ 32
 file-words kind site n ws k s l h b = on-cons (λ w. w < 2 ^ 32) (header kind site n (suc (length ws)) k s l (omega arith) .word) b
 
@@ -44,7 +45,7 @@ pub record Made (kind site n : ℕ) (body : ℕ → List ℕ → ℕ) (f : List 
   pub words : (w : ℕ) → Mem w f → w < 2 ^ 32
 
 -- a made file is one if its body is
-pub file-made : (kind site n : ℕ) (body : ℕ → List ℕ → ℕ) (ws : List ℕ) → kind < 16 → site < 16 → n < 16 → length ws < 4096
+pub file-made : (kind site n : ℕ) (body : ℕ → List ℕ → ℕ) (ws : List ℕ) → kind < 16 → site < 16 → n < 16 → length ws < replyWords
     → ((w : ℕ) → Mem w ws → w < 2 ^ 32) → ((h : ℕ) → labelsOf h ≡ n → body h ws ≡ 0) → Made kind site n body (file kind site n ws)
 file-made kind site n body ws k s l h b c =
     let r = header kind site n (suc (length ws)) k s l (omega arith) in
@@ -113,7 +114,7 @@ module _ (kind : ℕ) (body : ℕ → List ℕ → ℕ) where
       behind [] c = refl
       behind (w ∷ ws) c = rw (h w (header-kind (w ∷ ws) c))
 
-  -- and so is what g makes of these words
+  -- what g makes of those words is what it makes of each file's
   pub chosen-files : (g : ℕ → ℕ) (p : ℕ → Bool) → ((w : ℕ) → kindOf w ≡ kind → p w ≡ false) → (fs : List (List ℕ))
       → ((f : List ℕ) → Mem f fs → File kind body f) → map g (filter p (flatten fs)) ≡ flatten (map (λ f. map g (filter p (drop 1 f))) fs)
   chosen-files g p h fs c = rw (filter-files p h fs c) (map-flatten g (map (λ f. filter p (drop 1 f)) fs) ∙ rw map-map)

@@ -3,10 +3,10 @@ pub mod Words
 pub mod Bytes
 pub mod Reading
 pub mod Scans
+pub mod Counts
 pub mod Headers
 pub mod Buffers
 pub mod Exprs
-pub mod Settling
 pub mod Fields
 pub mod Blocks
 pub mod Parts

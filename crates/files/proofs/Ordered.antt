@@ -72,7 +72,7 @@ module _ (check : ℕ → ℕ) where
         (λ low w ws h c i last l. simp checks ((c, omega arith), i w (omega arith))) (suc last) ws (rw map-id (p .0)) (p .1) last (omega arith),
   )
 
-  -- so the words of ascending numbers are accepted, if each passes: no word of a kind above 0 is 0
+  -- the words of ascending numbers are accepted, if each passes: no word of a kind above 0 is 0
   pub made-accepted : (kind : ℕ) (xs : List ℕ) → 0 < kind → Ascending xs → ((x : ℕ) → Mem x xs → check (wordOf kind x) ≡ 0)
       → scanOrdered check 0 (map (wordOf kind) xs) ≡ 0
   made-accepted kind xs k a q = ordered-iff 0 (map (wordOf kind) xs) .1 (

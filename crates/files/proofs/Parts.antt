@@ -165,7 +165,7 @@ whole-root (h ∷ ws) c =
     let (w, m, t) = any-iff isRoot ws .0 (rw (header-node h ws p) at ((simp checks at t) .0)) in
     single (roots ws) (one-root (h ∷ ws) p) (nodeOf w) (map-filter-iff nodeOf isRoot (nodeOf w) ws .1 (w, m, t, refl))
 
--- and every target a node
+-- every target of a whole is a node of it
 pub whole-target : (f : List ℕ) → wholeCheck f ≡ 0 → (x w : ℕ) → Mem w (edges (drop 1 f) x) → Mem (targetOf w) (nodes (drop 1 f))
 whole-target [] c x w m = absurd (omega arith)
 whole-target (h ∷ ws) c x w m =

@@ -83,7 +83,7 @@ words-drop (suc n) (a ∷ b ∷ []) = rw quad
 words-drop (suc n) (a ∷ b ∷ c ∷ []) = rw quad
 words-drop (suc n) (a ∷ b ∷ c ∷ d ∷ s) = rw quad (words-drop n s)
 
--- and of the bytes of n words at the front
+-- the words of the bytes of n words at the front
 pub words-take : (n : ℕ) (s : List ℕ) → words (take (4 * n) s) ≡ take n (words s)
 words-take zero s = refl
 words-take (suc n) [] = rw quad

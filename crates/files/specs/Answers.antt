@@ -1,4 +1,4 @@
--- A second reply: the answer words, ascending. Document 01, "Second reply".
+-- Believed. A second reply: the answer words, ascending. Document 01, "Second reply".
 use Prim.Native.Nat.{ℕ}
 use mathlib.Core.Bool.{Bool, _&&_}
 use mathlib.Core.List.{List, map}

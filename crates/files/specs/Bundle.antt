@@ -1,15 +1,15 @@
--- A bundle: files one after another, each a stretch of the bundle that begins where the last one ended.
+-- Believed. A bundle: files one after another, each a stretch of the bundle that begins where the last one ended.
 use Prim.Native.Nat.{ℕ, zero, suc, _-_}
 use mathlib.Core.Bool.{Bool, true, false, not, _&&_, _||_}
 use mathlib.Core.List.{List, [], _∷_, map}
 use lib.Dec.{eqb, leb, ltb}
 use lib.ListN.{length, getD, take, drop}
 use Rattle.sets.specs.Sets.{member, any}
-use Rattle.sets.specs.States.{hasState}
-use Rattle.files.specs.Field.{siteOf, labelsOf, sizeOf, nodeOf, pairOf, pairNode}
+use Rattle.files.specs.Field.{siteOf, labelsOf, sizeOf, pairOf, pairNode}
 use Rattle.files.specs.Refuse.{_then_, _unless_, headerCheck}
 use Rattle.files.specs.Reply as reply
 use Rattle.files.specs.Answers as answers
+use Rattle.files.specs.Limits.{replyWords}
 
 -- the file that begins here: 3, 4, then its words by `body`; and so the files after it
 abbrev pub filesCheck : ℕ → (ℕ → List ℕ → ℕ) → ℕ → List ℕ → ℕ
@@ -17,7 +17,7 @@ filesCheck kind body zero ws = 0
 filesCheck kind body (suc k) [] = 0
 filesCheck kind body (suc k) (h ∷ ws) =
     headerCheck kind true true (sizeOf h) h
-    then 4 unless (ltb 0 (sizeOf h) && leb (sizeOf h) 4096 && leb (sizeOf h) (suc (length ws)))
+    then 4 unless (ltb 0 (sizeOf h) && leb (sizeOf h) replyWords && leb (sizeOf h) (suc (length ws)))
     then body h (take (sizeOf h - 1) ws)
     then filesCheck kind body k (drop (sizeOf h - 1) ws)
 
@@ -30,14 +30,6 @@ headers (suc k) (h ∷ ws) = h ∷ headers k (drop (sizeOf h - 1) ws)
 abbrev pub twice : List ℕ → Bool
 twice [] = false
 twice (x ∷ xs) = member x xs || twice xs
-
--- a header whose site was seen, or whose n is another
-unfoldable pub clashing : ℕ → ℕ → ℕ → Bool
-clashing sites n h = hasState sites (siteOf h) || not (eqb (labelsOf h) n)
-
--- a door word of the node x
-unfoldable pub doorOf : ℕ → ℕ → Bool
-doorOf x w = reply.isDoorWord w && eqb x (nodeOf w)
 
 -- a reach word whose node is no door of the words
 abbrev pub strays : List ℕ → ℕ → Bool

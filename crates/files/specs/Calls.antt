@@ -1,4 +1,4 @@
--- A call list: the called pairs, ascending. Document 01, "Call list".
+-- Believed. A call list: the called pairs, ascending. Document 01, "Call list".
 use Prim.Native.Nat.{ℕ}
 use mathlib.Core.Bool.{true, false, _&&_}
 use mathlib.Core.List.{List}

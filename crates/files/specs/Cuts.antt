@@ -1,4 +1,4 @@
--- A cut list: one site byte for each node word of a whole, in order. Document 01, "Cutter".
+-- Believed. A cut list: one site byte for each node word of a whole, in order. Document 01, "Cutter".
 use Prim.Native.Nat.{ℕ}
 use mathlib.Core.Bool.{Bool, not, _&&_}
 use mathlib.Core.List.{List}

@@ -1,4 +1,4 @@
--- An expression word by its case: a label of one of two sorts, or an operator. Document 01, "Path".
+-- Inner. An expression word by its case: a label of one of two sorts, or an operator. Document 01, "Path".
 use Prim.Native.Nat.{ℕ}
 use mathlib.Core.Bool.{cond}
 use lib.Dec.{eqb}

@@ -1,5 +1,6 @@
 pub mod Word
 pub mod Field
+pub mod Limits
 pub mod Refuse
 pub mod Scan
 pub mod Outcome

@@ -1,4 +1,4 @@
--- What a call answers, and what it leaves in the caller's buffers. Document 01, "Numbered refusals", after the table.
+-- Believed. What a call answers, and what it leaves in the caller's buffers. Document 01, "Numbered refusals", after the table.
 use Prim.Native.Nat.{ℕ, zero, suc, _-_, _*_}
 use mathlib.Core.Bool.{cond}
 use mathlib.Core.List.{List, _++_}
@@ -37,8 +37,3 @@ left number output work = record { number = number; output = output; work = work
 abbrev pub leaves : Outcome → ℕ → ℕ → Left
 leaves (refused k) n m = left k (zeros n) (zeros m)
 leaves (accepted result) n m = left 0 (padded n result) (zeros m)
-
--- the end of every call, by its number: the working buffer is zeroed, and after a refusal the output too
-unfoldable pub settled : ℕ → List ℕ → List ℕ → Left
-settled zero output work = left 0 output (zeros (length work))
-settled (suc k) output work = left (suc k) (zeros (length output)) (zeros (length work))

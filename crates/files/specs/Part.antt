@@ -1,4 +1,4 @@
--- A part: a header, then node words strictly ascending by number, each followed by its edge words, strictly ascending; at most
+-- Believed. A part: a header, then node words strictly ascending by number, each followed by its edge words, strictly ascending; at most
 -- one root, and a root is a door. A whole: a part with one root and every target among its nodes. Document 01, "Part".
 use Prim.Native.Nat.{ℕ, suc}
 use mathlib.Core.Bool.{Bool, true, false, cond, not, _&&_, _||_}
@@ -59,7 +59,7 @@ partCheck ws = fileCheck 1 true false (λ h ws. scan start ws) ws
 abbrev pub nodes : List ℕ → List ℕ
 nodes ws = map nodeOf (filter isNode ws)
 
--- those whose words have a mark: root, door, stopped
+-- the nodes whose words have a mark: root, door, stopped
 abbrev pub nodesWith : (ℕ → Bool) → List ℕ → List ℕ
 nodesWith mark ws = map nodeOf (filter (λ w. isNode w && mark w) ws)
 

@@ -1,11 +1,11 @@
--- A path: an expression in postfix, at most 64 words with the header. Document 01, "Path".
-use Prim.Native.Nat.{ℕ, suc, _-_}
+-- Believed. A path: an expression in postfix, at most 64 words with the header. Document 01, "Path".
+use Prim.Native.Nat.{ℕ, suc, _+_, _-_, _*_, _^_}
 use mathlib.Core.Bool.{Bool, true, false, cond, _&&_}
 use mathlib.Core.List.{List, [], _∷_}
 use lib.Dec.{eqb, leb}
 use lib.ListN.{length, getD}
 use Rattle.sets.specs.Sets.{filter}
-use Rattle.files.specs.Field.{bits, kindOf, labelsOf}
+use Rattle.files.specs.Field.{bits, kindOf, labelsOf, wordOf}
 use Rattle.files.specs.Refuse.{_then_, _unless_, fileCheck}
 use Rattle.files.specs.Scan.{scanWords}
 
@@ -31,6 +31,15 @@ groupOf w = bits 2 0 w
 -- 0 empty word, 1 then, 2 or, 3 star
 abbrev pub operatorOf : ℕ → ℕ
 operatorOf w = bits 1 0 w
+
+abbrev pub rangeWord : ℕ → ℕ → ℕ
+rangeWord low high = wordOf 5 (high * 2 ^ 12 + low)
+
+abbrev pub groupWord : ℕ → ℕ
+groupWord group = wordOf 5 (2 ^ 24 + group)
+
+abbrev pub operatorWord : ℕ → ℕ
+operatorWord op = wordOf 6 op
 
 abbrev pub labelCheck : ℕ → ℕ
 labelCheck w =

@@ -1,10 +1,11 @@
--- Numbered refusals. 0 is acceptance; of several checks the first number that is not 0 stands. Document 01, "Numbered refusals".
+-- Believed. Numbered refusals. 0 is acceptance; of several checks the first number that is not 0 stands. Document 01, "Numbered refusals".
 use Prim.Native.Nat.{ℕ, zero, suc, _*_, _/_, _%_}
 use mathlib.Core.Bool.{Bool, true, false, _&&_, _||_}
 use mathlib.Core.List.{List, [], _∷_}
 use lib.Dec.{eqb, leb, ltb}
 use lib.ListN.{length}
 use Rattle.files.specs.Field.{bits, kindOf, siteOf, labelsOf, sizeOf}
+use Rattle.files.specs.Limits.{workBytes}
 
 infixr 20 _then_
 infix 25 _unless_
@@ -20,7 +21,7 @@ n unless false = n
 
 -- 1: output bytes below 4 × the result's limit, or working buffer below 32,768 bytes
 abbrev pub roomCheck : ℕ → ℕ → ℕ → ℕ
-roomCheck limit out work = 1 unless (leb (4 * limit) out && leb 32768 work)
+roomCheck limit out work = 1 unless (leb (4 * limit) out && leb workBytes work)
 
 -- 2, of any input: no words, over the limit, or bytes not in fours
 abbrev pub sizeCheck : ℕ → List ℕ → ℕ

@@ -1,4 +1,4 @@
--- A first reply: for each door a door word, then for each state with anything to report a row word and its reach words.
+-- Believed. A first reply: for each door a door word, then for each state with anything to report a row word and its reach words.
 -- What the words so far say of the next, the reader's own struct. `low` is the least node of a next door, 0 before any door; `state` the
 -- least state of a next row of this door; `last` the word before it, whose kind says whether a row is open (9) and whether a reach word may
 -- come (9, 10).
@@ -14,6 +14,10 @@ use Rattle.files.specs.Scan.{scanWords}
 
 abbrev pub isDoorWord : ℕ → Bool
 isDoorWord w = eqb (kindOf w) 8
+
+-- the door word of node x
+abbrev pub isDoorOf : ℕ → ℕ → Bool
+isDoorOf x w = isDoorWord w && eqb (nodeOf w) x
 
 abbrev pub isRow : ℕ → Bool
 isRow w = eqb (kindOf w) 9
@@ -55,7 +59,7 @@ abbrev pub wordCheck : ℕ → Seen → ℕ → ℕ
 wordCheck n st w =
     cond (isDoorWord w) (doorCheck st w) (cond (isRow w) (rowCheck n st w) (cond (isReach w) (reachCheck n st w) 5))
 
--- and at the end
+-- at the end of the words: an empty row
 abbrev pub endCheck : Seen → ℕ
 endCheck st = 5 unless not (isRow (st .last))
 

@@ -1,4 +1,4 @@
--- Reading word by word. Document 01: "word by word .., then at its end".
+-- Believed. Reading word by word. Document 01: "word by word .., then at its end".
 use Prim.Native.Nat.{ℕ}
 use mathlib.Core.List.{List, [], _∷_}
 use lib.Dec.{ltb}

@@ -3,6 +3,7 @@ use crate::field::kind as kind_of;
 use crate::field::labels as labels_of;
 use crate::field::site as site_of;
 use crate::field::size;
+use crate::limits::WORK_BYTES;
 use crate::word::word_at;
 ghost use mathlib.Core.Path.{_≡_};
 ghost use mathlib.Core.Bool.{cond};
@@ -36,7 +37,7 @@ pub fn choose(b: bool, x: u32, y: u32) -> u32
 pub fn check_room(limit: usize, out: usize, work: usize) -> u32
     ensures { λ r. ⌜ r ≡ roomCheck limit out work ⌝ }
 {
-    refuse(1, (limit <= out / 4) & (32768 <= work))
+    refuse(1, (limit <= out / 4) & (WORK_BYTES <= work))
 }
 
 // 2: no words, over the limit, or bytes not in fours.

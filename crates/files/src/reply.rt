@@ -1,8 +1,9 @@
 // The words of a first reply by kind, and what a reader keeps of the words so far.
 use crate::field::kind;
+use crate::field::node;
 ghost use mathlib.Core.Path.{_≡_};
-ghost use Rattle.files.specs.Field.{doorRootOf, stateOf};
-ghost use Rattle.files.specs.Reply.{isDoorWord, isRow, isReach};
+ghost use Rattle.files.specs.Field.{doorRootOf};
+ghost use Rattle.files.specs.Reply.{isDoorWord, isDoorOf, isRow, isReach};
 
 // What the words so far say of the next: the word before it, the least node of a next door (0: no door yet), the least
 // state of a next row of this door, whether there was a root.
@@ -13,10 +14,17 @@ pub struct Seen {
     pub rooted: bool,
 }
 
-pub fn is_door(w: u32) -> bool
+pub fn is_door_word(w: u32) -> bool
     ensures { λ r. ⌜ r ≡ isDoorWord w ⌝ }
 {
     kind(w) == 8
+}
+
+// Whether a word is the door word of node x.
+pub fn is_door_of(x: u32, w: u32) -> bool
+    ensures { λ r. ⌜ r ≡ isDoorOf x w ⌝ }
+{
+    is_door_word(w) & (node(w) == x)
 }
 
 pub fn is_row(w: u32) -> bool
@@ -36,11 +44,4 @@ pub fn door_root(w: u32) -> bool
     ensures { λ r. ⌜ r ≡ doorRootOf w ⌝ }
 {
     w / 0x1_0000 % 2 == 1
-}
-
-// The state of a row and a reach word.
-pub fn state(w: u32) -> u32
-    ensures { λ r. ⌜ r ≡ stateOf w ⌝ }
-{
-    w % 16
 }

@@ -1,4 +1,4 @@
--- A word as text.
+-- Inner. A word as text.
 use Prim.Native.Nat.{ℕ}
 use mathlib.Core.List.{List, [], _∷_}
 use Rattle.io.specs.Digits.{glyph}

@@ -23,13 +23,11 @@ use Rattle.files.proofs.Rows.{rows-flatten, rows-reach}
 use Rattle.files.proofs.Files.{file-words}
 use Rattle.files.proofs.Bundles.{Firsts, firsts-labels, calls-made, file-stops, file-doors, file-rows, file-states}
 use Rattle.files.proofs.Ordered.{calls-read}
+use Rattle.files.specs.Limits.{replyWords, bundleWords, workBytes}
+pub use Rattle.hub_search.specs.Search.{seeds}
 use Rattle.hub_calls.specs.CallList.{IsCallList, called, callList, callListCall}
 
 -- Of any words
-
--- the root's pair
-abbrev pub seeds : List ℕ → List ℕ
-seeds bundle = map (λ x. pair x 0) (roots bundle)
 
 root-below : (bundle : List ℕ) (x : ℕ) → Mem x (roots bundle) → x < 2 ^ 16
 root-below bundle x m = let r = Memᴰ·of-map nodeOf (filter (λ w. isDoorWord w && doorRootOf w) bundle) m in rw (← r .2) (node-below (r .0))
@@ -51,7 +49,7 @@ module _ (bundle : List ℕ) where
   pub called-below : (c : ℕ) → Mem c (called bundle) → c < 2 ^ 20
   called-below c m = reach-least (λ c. c < 2 ^ 20) seed-below (λ c d r h. row-below c d) c (called-lists .sound c m)
 
-  -- so what is written is document 01's call list
+  -- what is computed is document 01's call list
   pub call-list : IsCallList bundle (callList bundle)
   unfolding callList
   call-list = record {
@@ -61,7 +59,7 @@ module _ (bundle : List ℕ) where
     is = refl;
   }
 
-  -- and there is no other
+  -- there is one call list of a bundle
   pub call-list-unique : {f g : List ℕ} → IsCallList bundle f → IsCallList bundle g → f ≡ g
   call-list-unique a b =
       let i = least-unique (a .set) (b .set) in
@@ -91,7 +89,7 @@ module _ (n : ℕ) (fs : List (List ℕ)) (b : Firsts n fs) where
   unfolding callList
   calls-is = ap (λ m. file 11 0 m (map callWord (called (flatten fs)))) (firsts-labels n fs b)
 
-  -- its calls are the called pairs
+  -- the call list's calls are the called pairs
   pub calls-pairs : map pairOf (drop 1 (callList (flatten fs))) ≡ called (flatten fs)
   calls-pairs = rw calls-is (calls-read (called (flatten fs)) (called-below (flatten fs)))
 
@@ -101,8 +99,8 @@ module _ (n : ℕ) (fs : List (List ℕ)) (b : Firsts n fs) where
   small : n < 16
   small = omega (arith, firsts-labels n fs b, labels-below (getD (flatten fs) 0 0))
 
-  module _ (short : length (callList (flatten fs)) ≤ 4096) where
-    fits : length (map callWord (called (flatten fs))) < 4096
+  module _ (short : length (callList (flatten fs)) ≤ replyWords) where
+    fits : length (map callWord (called (flatten fs))) < replyWords
     fits = rw calls-is at short
 
     pub calls-header : Header 11 0 n (length (callList (flatten fs))) (getD (callList (flatten fs)) 0 0)
@@ -112,7 +110,7 @@ module _ (n : ℕ) (fs : List (List ℕ)) (b : Firsts n fs) where
     calls-words = rw calls-is (file-words 11 0 n (map callWord (called (flatten fs))) (omega arith) (omega arith) small (omega (arith, fits))
         (λ w i. let r = Memᴰ·of-map callWord (called (flatten fs)) i in rw (← r .2) (holder 12 (r .0) (omega arith) (called-below (flatten fs) (r .0) (r .1)) .word)))
 
-    -- it is an accepted file
+    -- the call list is an accepted file
     pub calls-checked : callsCheck (callList (flatten fs)) ≡ 0
     calls-checked = rw calls-is (calls-made n (called (flatten fs)) small (omega (arith, fits, length-map (called (flatten fs)) callWord))
         (called-lists (flatten fs) .ascending) (λ c m. (called-below (flatten fs) c m, called-states c m)))
@@ -120,9 +118,9 @@ module _ (n : ℕ) (fs : List (List ℕ)) (b : Firsts n fs) where
 -- The call
 
 -- written as bytes, an accepted bundle is accepted by the call
-pub calls-outcome : (out work : ℕ) (bundle : List ℕ) → 4 * 4096 ≤ out → 32768 ≤ work → ((w : ℕ) → Mem w bundle → w < 2 ^ 32)
-    → 0 < length bundle → length bundle ≤ 8192 → firstBundleCheck bundle ≡ 0
-    → callListCall out work (bytesOf bundle) ≡ outcome 0 4096 (callList bundle)
+pub calls-outcome : (out work : ℕ) (bundle : List ℕ) → 4 * replyWords ≤ out → workBytes ≤ work → ((w : ℕ) → Mem w bundle → w < 2 ^ 32)
+    → 0 < length bundle → length bundle ≤ bundleWords → firstBundleCheck bundle ≡ 0
+    → callListCall out work (bytesOf bundle) ≡ outcome 0 replyWords (callList bundle)
 unfolding callListCall
 calls-outcome out work bundle h k w s l c =
-    rw (words-bytes bundle w) (ap (λ e. outcome e 4096 (callList bundle)) (then-zero (room-checked 4096 out work h k) (then-zero (size-checked 8192 bundle s l) c)))
+    rw (words-bytes bundle w) (ap (λ e. outcome e replyWords (callList bundle)) (then-zero (room-checked replyWords out work h k) (then-zero (size-checked bundleWords bundle s l) c)))

@@ -16,13 +16,14 @@ use Rattle.sets.proofs.Reach.{reach-least}
 use Rattle.sets.proofs.Filter.{all-that-iff, map-filter-mono}
 use Rattle.files.specs.Field.{nodeOf, doorRootOf, pair, pairOf, pairNode}
 use Rattle.files.specs.Refuse.{_then_, _unless_}
-use Rattle.files.specs.Reply.{isDoorWord, isReach, replyCheck, doors, roots}
+use Rattle.files.specs.Reply.{isDoorWord, isReach, replyCheck, doors, roots, isDoorOf}
 use Rattle.files.specs.Bundle.{filesCheck, headers, headersCheck, twice, strays, firstBundleCheck}
 use Rattle.files.proofs.Checks.{then-iff, unless-iff}
 use Rattle.files.proofs.Rows.{rows-reach}
-use Rattle.hub_calls.specs.Search.{isDoorOf, DoorAt, Homes}
-use Rattle.hub_calls.proofs.CallLists.{seeds, called-lists}
-use Rattle.hub_calls.proofs.Turning.{door-later}
+use Rattle.hub_search.specs.Search.{DoorAt, seeds}
+use Rattle.hub_search.proofs.Turning.{door-later}
+use Rattle.hub_calls.specs.Listing.{Homes}
+use Rattle.hub_calls.proofs.CallLists.{called-lists}
 
 -- a door has a place
 door-place : (x : ℕ) (ws : List ℕ) → Mem x (doors ws) → (j : ℕ) × DoorAt ws x j

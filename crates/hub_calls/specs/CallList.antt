@@ -1,4 +1,4 @@
--- The hub's call list. Document 01, "Call list".
+-- Believed. The hub's call list. Document 01, "Call list".
 use Prim.Native.Nat.{ℕ}
 use mathlib.Core.Path.{_≡_}
 use mathlib.Core.List.{List, map}
@@ -11,6 +11,7 @@ use Rattle.files.specs.Refuse.{_then_, roomCheck, sizeCheck}
 use Rattle.files.specs.Outcome.{Outcome, outcome}
 use Rattle.files.specs.Reply.{roots, rows}
 use Rattle.files.specs.Bundle.{firstBundleCheck}
+use Rattle.files.specs.Limits.{replyWords, bundleWords}
 
 -- Document 01: "the least set of (node, state) holding the root with 0 and closed under the replies' rows, ascending." What a call list is,
 -- in those words: f, by the words of an accepted bundle.
@@ -20,7 +21,7 @@ pub record IsCallList (bundle f : List ℕ) : Type 1 where
   pub set : Least (λ c. Mem c (map (λ x. pair x 0) (roots bundle))) (λ c d. Mem d (rows bundle c)) (λ c. Mem c pairs)
   pub is : f ≡ file 11 0 (labelsOf (getD bundle 0 0)) (map callWord pairs)
 
--- and computed
+-- the called pairs, computed
 unfoldable pub called : List ℕ → List ℕ
 called bundle = closure (rows bundle) (map (λ x. pair x 0) (roots bundle))
 
@@ -29,4 +30,4 @@ callList bundle = file 11 0 (labelsOf (getD bundle 0 0)) (map callWord (called b
 
 unfoldable pub callListCall : ℕ → ℕ → List ℕ → Outcome
 callListCall out work bundle =
-    outcome (roomCheck 4096 out work then sizeCheck 8192 bundle then firstBundleCheck (words bundle)) 4096 (callList (words bundle))
+    outcome (roomCheck replyWords out work then sizeCheck bundleWords bundle then firstBundleCheck (words bundle)) replyWords (callList (words bundle))

@@ -1,2 +1,2 @@
 pub mod CallList
-pub mod Search
+pub mod Listing

@@ -1,3 +1,3 @@
 // The hub between the replies: the call list of a bundle of first replies.
-pub mod call_list;
-mod search;
+pub mod call;
+mod listing;

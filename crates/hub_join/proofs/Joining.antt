@@ -23,6 +23,7 @@ use Rattle.files.proofs.Fields.{header, answer, node-below}
 use Rattle.files.proofs.Ordered.{answers-read}
 use Rattle.files.proofs.Files.{File, header-kind, file-words}
 use Rattle.files.proofs.Bundles.{Seconds}
+use Rattle.files.specs.Limits.{bundleWords, finalWords, workBytes}
 use Rattle.hub_join.specs.Join.{IsJoined, joined, joinCall}
 
 -- Of any bundle
@@ -39,11 +40,11 @@ module _ (bundle : List ℕ) where
   unfolding joined
   joined-is = refl
 
-  -- so it is a joined list
+  -- what is computed is a joined list
   pub joined-list : IsJoined bundle (joined bundle)
   joined-list = (listed, setOf-lists (answersOf bundle), joined-is)
 
-  -- and there is no other
+  -- there is one joined list of a bundle
   pub joined-unique : {f g : List ℕ} → IsJoined bundle f → IsJoined bundle g → f ≡ g
   joined-unique = made-unique (λ xs. file 15 0 0 (map answerWord xs))
 
@@ -51,12 +52,12 @@ module _ (bundle : List ℕ) where
   pub joined-short : length (filter isAnswer bundle) < length bundle → length (joined bundle) ≤ length bundle
   joined-short h = rw joined-is (omega (arith, length-map listed answerWord, setOf-length (answersOf bundle), length-map (filter isAnswer bundle) nodeOf))
 
-  module _ (short : length (joined bundle) ≤ 8192) where
-    fits : length (map answerWord listed) < 8192
+  module _ (short : length (joined bundle) ≤ finalWords) where
+    fits : length (map answerWord listed) < finalWords
     fits = rw joined-is at short
 
     -- what holds of a file that is made holds of it, and it is of 32-bit words
-    pub joined-file : (P : List ℕ → Type 0) → ((ws : List ℕ) → 15 < 16 → 0 < 16 → 0 < 16 → length ws < 8192 → P (file 15 0 0 ws)) → P (joined bundle)
+    pub joined-file : (P : List ℕ → Type 0) → ((ws : List ℕ) → 15 < 16 → 0 < 16 → 0 < 16 → length ws < finalWords → P (file 15 0 0 ws)) → P (joined bundle)
     joined-file P f = rw joined-is (f (map answerWord listed) (omega arith) (omega arith) (omega arith) fits)
 
     pub joined-words : (w : ℕ) → Mem w (joined bundle) → w < 2 ^ 32
@@ -78,7 +79,7 @@ second-first h ws e =
     let k : kindOf h ≡ 13 = (simp checks at b) .0 .0 .0 .0 in
     rw k (omega (arith, filter-length isAnswer ws))
 
-pub joined-fits : (ws : List ℕ) → secondBundleCheck ws ≡ 0 → 0 < length ws → length ws ≤ 8192 → length (joined ws) ≤ 8192
+pub joined-fits : (ws : List ℕ) → secondBundleCheck ws ≡ 0 → 0 < length ws → length ws ≤ bundleWords → length (joined ws) ≤ finalWords
 joined-fits [] c m l = absurd (omega arith)
 joined-fits (h ∷ ws) c m l = omega (arith, joined-short (h ∷ ws) (second-first h ws c))
 
@@ -94,15 +95,15 @@ module _ (n : ℕ) (fs : List (List ℕ)) (b : Seconds n fs) (some : 0 < length 
       first ((h ∷ ws) ∷ fs) c s = rw (header-kind 13 answersCheck (h ∷ ws) (c (h ∷ ws) (here refl))) (omega (arith, filter-length isAnswer (ws ++ flatten fs)))
 
   -- the bundle's answers, each once
-  pub seconds-perm : length (flatten fs) ≤ 8192 → Perm (answersOf (flatten fs)) (answersOf (joined (flatten fs)))
+  pub seconds-perm : length (flatten fs) ≤ bundleWords → Perm (answersOf (flatten fs)) (answersOf (joined (flatten fs)))
   seconds-perm h = rw (joined-answers (flatten fs) (omega (arith, seconds-short))) (setOf-perm (answersOf (flatten fs)) (b .distinct))
 
 -- The call
 
 -- written as bytes, an accepted bundle is accepted by the call
-pub join-outcome : (out work : ℕ) (bundle : List ℕ) → 4 * 8192 ≤ out → 32768 ≤ work → ((w : ℕ) → Mem w bundle → w < 2 ^ 32)
-    → 0 < length bundle → length bundle ≤ 8192 → secondBundleCheck bundle ≡ 0
-    → joinCall out work (bytesOf bundle) ≡ outcome 0 8192 (joined bundle)
+pub join-outcome : (out work : ℕ) (bundle : List ℕ) → 4 * finalWords ≤ out → workBytes ≤ work → ((w : ℕ) → Mem w bundle → w < 2 ^ 32)
+    → 0 < length bundle → length bundle ≤ bundleWords → secondBundleCheck bundle ≡ 0
+    → joinCall out work (bytesOf bundle) ≡ outcome 0 finalWords (joined bundle)
 unfolding joinCall
 join-outcome out work bundle h k w s l c =
-    rw (words-bytes bundle w) (ap (λ e. outcome e 8192 (joined bundle)) (then-zero (room-checked 8192 out work h k) (then-zero (size-checked 8192 bundle s l) c)))
+    rw (words-bytes bundle w) (ap (λ e. outcome e finalWords (joined bundle)) (then-zero (room-checked finalWords out work h k) (then-zero (size-checked bundleWords bundle s l) c)))

@@ -1,2 +1,3 @@
 // The hub at the end: the joining of a bundle of second replies.
-pub mod join_call;
+pub mod call;
+mod listing;

@@ -13,8 +13,8 @@ use lib.Count.{trailingZeros}
 use borrow.Author.Tests.{eq-eqb, ne-eqb}
 use lib.ListN.{length, getD, drop}
 use Rattle.sets.specs.Sets.{Mem, Lists}
-use Rattle.sets.proofs.Tests.{passed, is-true}
-use Rattle.sets.proofs.Cases.{and-left, and-right, and-intro, not-elim, bool-cases, clash}
+use Rattle.sets.proofs.Tests.{passed, is-true, either}
+use Rattle.sets.proofs.Cases.{and-left, and-right, and-intro, not-elim, clash}
 use Rattle.sets.specs.Reach.{Reach}
 use Rattle.sets.specs.States.{hasState, members}
 use Rattle.sets.proofs.Members.{members-in, in-members}
@@ -33,16 +33,19 @@ use Rattle.expressions.specs.Expr.{Expr, count}
 use Rattle.expressions.specs.Positions.{accepts}
 use Rattle.walks.specs.Product.{stepIn, answers}
 use Rattle.slots.specs.Slots.{nodeAt, stoppedAt, number, reachedOf, isReached, Laid}
-use Rattle.walks.specs.Search.{Follow, Masked, Marks, Searched}
+use Rattle.part_search.specs.Search.{Follow, Masked, Marks, Searched}
 use Rattle.walks.proofs.Product.{accepts-small, answers-lists}
-use Rattle.walks.proofs.Seeding.{marks-sought}
+use Rattle.part_search.proofs.Seeding.{marks-sought}
 use Rattle.slots.proofs.Places.{node-in, in-node, node-below as node-within, nodes-rise, nodes-same, rising, stopped-iff}
 use Rattle.listing.specs.Listing.{lands, answerHere, answerWords}
 
--- a node's number is below 2 ^ 16, whatever the word
-pub answer-is : (ws : List ℕ) (i : ℕ) {x : ℕ} → x ≡ number ws i → 0xe0000000 + x % 65536 ≡ answerWord (number ws i)
+-- a node's number has sixteen bits, whatever the word
+pub number-below : (ws : List ℕ) (i : ℕ) → number ws i < 2 ^ 16
 unfolding number
-answer-is ws i e = omega (arith, node-below (getD ws i 0))
+number-below ws i = node-below (getD ws i 0)
+
+pub number-small : (ws : List ℕ) (i : ℕ) {x : ℕ} → x ≡ number ws i → x < 65536
+number-small ws i e = omega (arith, number-below ws i)
 
 module _ {limit n : ℕ} (part w : List ℕ) (accepts i : ℕ) where
   -- an answer was written, or there is none
@@ -71,10 +74,6 @@ pub answers-all : (part w : List ℕ) (accepts : ℕ) {limit : ℕ} {out₀ : Li
 answers-all part w accepts e p = rw (← e) (p .written)
 
 -- ---- what the words are
-
-pub number-below : (ws : List ℕ) (i : ℕ) → number ws i < 2 ^ 16
-unfolding number
-number-below ws i = node-below (getD ws i 0)
 
 lands-running : (ws w : List ℕ) (a i : ℕ) → lands ws w a i ≡ true → (nodeAt ws i ≡ true) × (stoppedAt ws i ≡ false)
 unfolding lands
@@ -130,7 +129,7 @@ module _ (ws : List ℕ) (t : ℕ) (follow w w′ : List ℕ) (s : Searched ws t
   runs-iff i n =
       let r = running-iff (drop 1 ws) (number ws i) in
       let s = stopped-iff ws (laid .accepted) i n in (
-        λ m. ⊎-elim (λ b. absurd (r .0 m .1 (s .1 b))) (λ b. b) (bool-cases (stoppedAt ws i)),
+        λ m. ⊎-elim (λ b. absurd (r .0 m .1 (s .1 b))) (λ b. b) (either (stoppedAt ws i)),
         λ b. r .1 (rw (nodes-same ws (laid .accepted)) (node-in ws i n), λ k. clash (s .0 k) b),
       )
 

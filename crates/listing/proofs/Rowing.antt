@@ -12,12 +12,8 @@ use Rattle.files.specs.Field.{rowWord, reachWord}
 use Rattle.output.specs.Writer.{Puts, Writes}
 use Rattle.output.proofs.Writing.{Adding, adding-more, puts-more}
 use Rattle.slots.specs.Slots.{number, reachedOf, placeOf}
-use Rattle.listing.proofs.Answering.{number-below}
 use Rattle.output.specs.Pairs.{pairsWith}
 use Rattle.listing.specs.Rows.{pairsAt, pairsUpTo}
-
-pub number-small : (ws : List ℕ) (i : ℕ) {r : ℕ} → r ≡ number ws i → r < 65536
-number-small ws i e = omega (arith, number-below ws i)
 
 pub target-is : {limit n : ℕ} {a b : List ℕ} {j r : ℕ} (ws w : List ℕ) (k i x s : ℕ) → i ≡ placeOf w k → x ≡ number ws i → s ≡ reachedOf w i
     → Writes limit n a j b r (map reachWord (pairsWith x s)) → Writes limit n a j b r (map reachWord (pairsAt ws w k))

@@ -4,17 +4,19 @@ ghost use Prim.Native.Nat.{_*_, _<_, _≤_};
 ghost use lib.ListN.{length};
 ghost use Rattle.files.specs.Word.{words};
 ghost use Rattle.files.specs.Field.{answerWord};
+ghost use Rattle.files.specs.Limits.{partWords, workBytes, finalWords};
 ghost use Rattle.output.specs.Writer.{Writes};
 ghost use Rattle.slots.specs.Slots.{number};
 ghost use Rattle.listing.specs.Listing.{lands, answerHere, answerWords};
 use crate::tables::states_at;
+use files::make::answer_word;
 use output::writer::push;
 use slots::position::is_node;
 use slots::position::is_stopped;
 use slots::position::number_at;
 
 fn landed(part: &[u8], work: &[u8], accepts: u16, i: usize) -> bool
-    requires { ⌜ (i < 4096) × (32768 ≤ length (now work)) ⌝ }
+    requires { ⌜ (i < partWords) × (workBytes ≤ length (now work)) ⌝ }
     ensures { λ r. ⌜ r ≡ lands (words (now (part .entry))) (now (work .entry)) accepts i ⌝ }
 {
     is_node(part, i) & !is_stopped(part, i) & !((states_at(work, i) & accepts) == 0)
@@ -23,7 +25,7 @@ fn landed(part: &[u8], work: &[u8], accepts: u16, i: usize) -> bool
 fn answer_at(part: &[u8], i: usize) -> u32
     ensures { λ r. ⌜ r ≡ answerWord (number (words (now (part .entry))) i) ⌝ }
 {
-    0xe000_0000 + number_at(part, i) % 0x1_0000
+    answer_word(number_at(part, i))
 }
 
 // The answer of position i, if there is one.
@@ -36,7 +38,7 @@ fn write_answer(
     limit: usize,
     count: usize,
 ) -> usize
-    requires { ⌜ (i < 4096) × (32768 ≤ length (now work)) × (limit ≤ 8192) × (4 * limit ≤ length (now out)) ⌝ }
+    requires { ⌜ (i < partWords) × (workBytes ≤ length (now work)) × (limit ≤ finalWords) × (4 * limit ≤ length (now out)) ⌝ }
     ensures { λ r. ⌜ Writes limit (length (now (out .entry))) (now (out .entry)) count (now (out .exit)) r
         (answerHere (words (now (part .entry))) (now (work .entry)) accepts i) ⌝ }
 {
@@ -47,7 +49,7 @@ fn write_answer(
     count
 }
 
-// All of them, behind the `start` words that were written.
+// The answers of all positions, behind the `start` words that were written.
 pub fn write_answers(
     part: &[u8],
     work: &[u8],
@@ -56,7 +58,7 @@ pub fn write_answers(
     limit: usize,
     start: usize,
 ) -> usize
-    requires { ⌜ (length (words (now part)) ≤ 4096) × (32768 ≤ length (now work)) × (limit ≤ 8192) × (4 * limit ≤ length (now out)) ⌝ }
+    requires { ⌜ (length (words (now part)) ≤ partWords) × (workBytes ≤ length (now work)) × (limit ≤ finalWords) × (4 * limit ≤ length (now out)) ⌝ }
     ensures { λ r. ⌜ Writes limit (length (now (out .entry))) (now (out .entry)) start (now (out .exit)) r
         (answerWords (words (now (part .entry))) (now (work .entry)) accepts (length (words (now (part .entry))))) ⌝ }
 {

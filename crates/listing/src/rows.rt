@@ -5,22 +5,17 @@ ghost use Prim.Native.Nat.{ℕ, _*_, _<_, _≤_};
 ghost use lib.ListN.{length};
 ghost use Rattle.files.specs.Word.{words};
 ghost use Rattle.files.specs.Field.{rowWord, reachWord};
+ghost use Rattle.files.specs.Limits.{partWords, workBytes, finalWords};
 ghost use Rattle.output.specs.Writer.{Puts, Writes};
 ghost use Rattle.slots.specs.Slots.{placeOf};
-ghost use Rattle.listing.specs.Rows.{pairsAt, pairsUpTo};
+ghost use Rattle.listing.specs.Rows.{Places, pairsAt, pairsUpTo};
 use crate::tables::place_at;
 use crate::tables::states_at;
+use files::make::row_word;
 use output::pairs::write_pairs;
 use output::writer::push;
 use sets::states::size;
 use slots::position::number_at;
-
-fn row_word(q: u32) -> u32
-    requires { ⌜ q < 16 ⌝ }
-    ensures { λ r. ⌜ r ≡ rowWord q ⌝ }
-{
-    0x9000_0000 + q
-}
 
 // The reach words of the outside target in place k.
 fn write_target(
@@ -31,7 +26,7 @@ fn write_target(
     limit: usize,
     start: usize,
 ) -> usize
-    requires { ⌜ (k < 4096) × (placeOf (now work) k < 4096) × (32768 ≤ length (now work)) × (limit ≤ 8192) × (4 * limit ≤ length (now out)) ⌝ }
+    requires { ⌜ (k < partWords) × (placeOf (now work) k < partWords) × (workBytes ≤ length (now work)) × (limit ≤ finalWords) × (4 * limit ≤ length (now out)) ⌝ }
     ensures { λ r. ⌜ Writes limit (length (now (out .entry))) (now (out .entry)) start (now (out .exit)) r (map reachWord (pairsAt (words (now (part .entry))) (now (work .entry)) k)) ⌝ }
 {
     let i = place_at(work, k);
@@ -42,7 +37,7 @@ fn write_target(
 
 // The reach words of the outside targets in the first t places.
 fn write_targets(part: &[u8], work: &[u8], t: usize, out: &mut [u8], limit: usize, start: usize)
-    requires { ⌜ (t ≤ 4096) × ((k : ℕ) → k < t → placeOf (now work) k < 4096) × (32768 ≤ length (now work)) × (limit ≤ 8192) × (4 * limit ≤ length (now out)) ⌝ }
+    requires { ⌜ Places (now work) t × (limit ≤ finalWords) × (4 * limit ≤ length (now out)) ⌝ }
     ensures { λ _. ⌜ Puts limit (length (now (out .entry))) (now (out .entry)) start (now (out .exit)) (map reachWord (pairsUpTo (words (now (part .entry))) (now (work .entry)) t)) ⌝ }
 {
     let mut at = start;
@@ -55,7 +50,7 @@ fn write_targets(part: &[u8], work: &[u8], t: usize, out: &mut [u8], limit: usiz
 
 // How many pairs a row has: the states of each target, counted.
 pub fn row_length(work: &[u8], t: usize) -> usize
-    requires { ⌜ (t ≤ 4096) × ((k : ℕ) → k < t → placeOf (now work) k < 4096) × (32768 ≤ length (now work)) ⌝ }
+    requires { ⌜ Places (now work) t ⌝ }
     ensures { λ r. ⌜ ((ws : List ℕ) → r ≡ length (pairsUpTo ws (now (work .entry)) t)) ⌝ }
 {
     let mut n: usize = 0;
@@ -78,7 +73,7 @@ pub fn write_row(
     limit: usize,
     start: usize,
 )
-    requires { ⌜ (t ≤ 4096) × ((k : ℕ) → k < t → placeOf (now work) k < 4096) × (32768 ≤ length (now work)) × (q < 16) × (limit ≤ 8192) × (4 * limit ≤ length (now out)) ⌝ }
+    requires { ⌜ Places (now work) t × (q < 16) × (limit ≤ finalWords) × (4 * limit ≤ length (now out)) ⌝ }
     ensures { λ _. ⌜ Puts limit (length (now (out .entry))) (now (out .entry)) start (now (out .exit)) (rowWord q ∷ map reachWord (pairsUpTo (words (now (part .entry))) (now (work .entry)) t)) ⌝ }
 {
     let w = row_word(q);

@@ -1,5 +1,5 @@
 // The calls, under the names that the C host uses. Each has no precondition, and its contract is one equation: what it leaves in number,
-// output and working buffer is what document 01's definition gives. Demand 3 (proofs/Demand.antt) is about these outcomes.
+// output and working buffer is what document 01's definition gives. Demand 3 (demands/proofs/Demand.antt) is about these outcomes.
 ghost use mathlib.Core.Path.{_≡_};
 ghost use lib.ListN.{length};
 ghost use Rattle.files.specs.Outcome.{left, leaves};
@@ -9,12 +9,12 @@ ghost use Rattle.hub_calls.specs.CallList.{callListCall};
 ghost use Rattle.hub_join.specs.Join.{joinCall};
 ghost use Rattle.old.specs.Old.{oldSearchCall};
 ghost use Rattle.cutter.specs.Cut.{cutCall};
-use cutter::cutting::cut;
-use hub_calls::call_list::call_list;
-use hub_join::join_call::join;
-use old::searching::old_search;
-use site_first::first_call::first_reply;
-use site_second::answering::second_reply;
+use cutter::call::cut;
+use hub_calls::call::call_list;
+use hub_join::call::join;
+use old::call::old_search;
+use site_first::call::first_reply;
+use site_second::call::second_reply;
 
 #[no_mangle]
 pub extern "C" fn mowqachi_old_search(

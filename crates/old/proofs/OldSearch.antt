@@ -14,6 +14,7 @@ use Rattle.files.specs.Path.{pathCheck}
 use Rattle.files.proofs.Checks.{then-zero, room-checked, outcome-gives}
 use Rattle.files.proofs.Words.{words-bytes, size-checked}
 use Rattle.files.proofs.Parts.{whole-part, part-some}
+use Rattle.files.specs.Limits.{partWords, pathWords, finalWords, workBytes}
 use Rattle.expressions.specs.Labels.{exprOf}
 use Rattle.expressions.proofs.Paths.{path-some}
 use Rattle.walks.specs.Product.{answers}
@@ -39,14 +40,14 @@ listed-length f path h =
     ))
 
 -- written as bytes, an accepted file and path are accepted by the call
-pub old-call : (out work : ℕ) (f path : List ℕ) → 4 * 8192 ≤ out → 32768 ≤ work
-    → ((w : ℕ) → Mem w f → w < 2 ^ 32) → length f ≤ 4096 → wholeCheck f ≡ 0
-    → ((w : ℕ) → Mem w path → w < 2 ^ 32) → length path ≤ 64 → pathCheck path ≡ 0
+pub old-call : (out work : ℕ) (f path : List ℕ) → 4 * finalWords ≤ out → workBytes ≤ work
+    → ((w : ℕ) → Mem w f → w < 2 ^ 32) → length f ≤ partWords → wholeCheck f ≡ 0
+    → ((w : ℕ) → Mem w path → w < 2 ^ 32) → length path ≤ pathWords → pathCheck path ≡ 0
     → oldSearchCall out work (bytesOf f) (bytesOf path) ≡ accepted (listed f path)
 unfolding oldSearchCall
 old-call out work f path h k v l c w m a =
     let some = part-some f (whole-part f c) in
-    rw (words-bytes f v, words-bytes path w) (ap (λ c. outcome c 8192 (listed f path))
-    (then-zero (room-checked 8192 out work h k) (then-zero (size-checked 4096 f some l)
-    (then-zero c (then-zero (size-checked 64 path (path-some path a) m) a))))
-    ∙ outcome-gives 8192 (listed f path) (omega (arith, listed-length f path some)))
+    rw (words-bytes f v, words-bytes path w) (ap (λ c. outcome c finalWords (listed f path))
+    (then-zero (room-checked finalWords out work h k) (then-zero (size-checked partWords f some l)
+    (then-zero c (then-zero (size-checked pathWords path (path-some path a) m) a))))
+    ∙ outcome-gives finalWords (listed f path) (omega (arith, listed-length f path some)))

@@ -1,4 +1,4 @@
--- The old search over a whole plant.
+-- Believed. The old search over a whole plant.
 use Prim.Native.Nat.{ℕ}
 use mathlib.Core.List.{List, map}
 use lib.ListN.{drop}
@@ -8,6 +8,7 @@ use Rattle.files.specs.Refuse.{_then_, roomCheck, sizeCheck}
 use Rattle.files.specs.Outcome.{Outcome, outcome}
 use Rattle.files.specs.Part.{roots, wholeCheck}
 use Rattle.files.specs.Path.{pathCheck}
+use Rattle.files.specs.Limits.{partWords, pathWords, finalWords}
 use Rattle.expressions.specs.Labels.{exprOf}
 use Rattle.walks.specs.Product.{answers}
 
@@ -18,6 +19,6 @@ listed whole path =
 unfoldable pub oldSearchCall : ℕ → ℕ → List ℕ → List ℕ → Outcome
 oldSearchCall out work whole path =
     outcome
-    (roomCheck 8192 out work then sizeCheck 4096 whole then wholeCheck (words whole) then sizeCheck 64 path then pathCheck (words path))
-    8192
+    (roomCheck finalWords out work then sizeCheck partWords whole then wholeCheck (words whole) then sizeCheck pathWords path then pathCheck (words path))
+    finalWords
     (listed (words whole) (words path))

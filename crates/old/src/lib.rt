@@ -1,2 +1,3 @@
 // The old search, over a whole plant.
-pub mod searching;
+pub mod call;
+mod search;

@@ -1,5 +1,5 @@
 pub mod Writing
 pub mod Ranges
 pub mod Spelling
-pub mod Headed
-pub mod Accepting
+pub mod Settling
+pub mod Frame

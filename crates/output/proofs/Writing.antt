@@ -6,15 +6,11 @@ use native.Mathlib.Omega.{arith}
 use lib.ListN.{length, take, length-append}
 use lib.Seq.{take-append-le, take-all}
 use Rattle.files.specs.Word.{putWord}
-use Rattle.files.specs.Outcome.{zeros, padded}
-use Rattle.files.proofs.Buffers.{padded-none, padded-more}
+use Rattle.files.specs.Outcome.{padded}
+use Rattle.files.proofs.Buffers.{padded-more}
 use Rattle.output.specs.Writer.{Written, Puts, Counts, Writes}
 
 module _ (limit n : ℕ) where
-  -- nothing yet
-  pub written-none : Written limit n [] (zeros n) 0
-  written-none = record { out-is = rw (take-all {A = ℕ} limit [] (omega arith)) (sym (padded-none n)); counted = omega arith }
-
   -- one more word that fits
   pub written-more : (ws : List ℕ) (w : ℕ) {out out′ : List ℕ} {count : ℕ} → count < limit → 4 * limit ≤ n → out′ ≡ putWord out count w
       → Written limit n ws out count → Written limit n (ws ++ w ∷ []) out′ (count + 1)
@@ -41,7 +37,7 @@ module _ (limit n : ℕ) where
       let l : length ws ≤ limit = omega (arith, r .counted) in
       (r .out-is ∙ ap (padded n) (take-all limit ws l), l, omega (arith, r .counted))
 
-  -- and what is over it is longer
+  -- words over the limit are more than the limit
   pub written-long : (ws : List ℕ) {out : List ℕ} {count : ℕ} → limit < count → Written limit n ws out count → limit < length ws
   written-long ws h r = omega (arith, r .counted)
 

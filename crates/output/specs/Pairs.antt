@@ -1,4 +1,4 @@
--- Pairs whose words are written one after another.
+-- Inner. Pairs whose words are written one after another.
 use mathlib.Core.List.{List, map}
 use Prim.Native.Nat.{ℕ}
 use Rattle.sets.specs.States.{statesOf}

@@ -1,4 +1,4 @@
--- Words written one after another to a buffer, counted, and none past a limit.
+-- Inner. Words written one after another to a buffer, counted, and none past a limit.
 use mathlib.Core.Path.{_≡_}
 use mathlib.Core.List.{List, _++_}
 use Prim.Native.Nat.{ℕ, suc, _+_, _≤_, min}

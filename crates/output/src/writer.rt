@@ -3,11 +3,12 @@ use files::word::put_word;
 ghost use mathlib.Core.List.{[], _∷_};
 ghost use Prim.Native.Nat.{_*_, _≤_};
 ghost use lib.ListN.{length};
+ghost use Rattle.files.specs.Limits.{finalWords};
 ghost use Rattle.output.specs.Writer.{Counts, Writes};
 
 // The count after k more words.
 pub fn advance(limit: usize, count: usize, k: usize) -> usize
-    requires { ⌜ limit ≤ 8192 ⌝ }
+    requires { ⌜ limit ≤ finalWords ⌝ }
     ensures { λ r. ⌜ Counts limit count k r ⌝ }
 {
     if limit < count {
@@ -21,7 +22,7 @@ pub fn advance(limit: usize, count: usize, k: usize) -> usize
 
 // One more word.
 pub fn push(out: &mut [u8], limit: usize, count: usize, w: u32) -> usize
-    requires { ⌜ (limit ≤ 8192) × (4 * limit ≤ length (now out)) ⌝ }
+    requires { ⌜ (limit ≤ finalWords) × (4 * limit ≤ length (now out)) ⌝ }
     ensures { λ r. ⌜ Writes limit (length (now (out .entry))) (now (out .entry)) count (now (out .exit)) r (w ∷ []) ⌝ }
 {
     if count < limit {

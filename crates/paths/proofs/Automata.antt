@@ -11,8 +11,8 @@ use lib.Bits.{bitOr}
 use lib.Dec.{T, eqb·suc-zero}
 use lib.ListN.{length, getD}
 use Rattle.sets.specs.States.{hasState}
-use Rattle.sets.proofs.Cases.{bool-cases, not-known}
-use Rattle.sets.proofs.Tests.{passed, and-iff, le-iff}
+use Rattle.sets.proofs.Cases.{not-known}
+use Rattle.sets.proofs.Tests.{passed, and-iff, le-iff, either}
 use Rattle.sets.proofs.StateSets.{has-pow}
 use Rattle.files.specs.Expr.{labelAt}
 use Rattle.paths.specs.declared.letters.Letters.{Letters}
@@ -20,33 +20,33 @@ use Rattle.paths.specs.declared.operand.Operand.{Operand}
 use Rattle.paths.specs.declared.builder.Builder.{Builder}
 use Rattle.expressions.specs.Expr.{Expr, letters, count}
 use Rattle.expressions.specs.Positions.{nullable, first, last, follow, next, accepts, labelWord}
-use Rattle.expressions.specs.Postfix.{Part, Tables, compute, tables, partOf, link}
 use Rattle.expressions.specs.Labels.{between, holds}
-use Rattle.paths.specs.Interval.{within, intervalOf}
-use Rattle.paths.specs.Operand.{partIn, tableIn}
+use Rattle.labels.specs.Interval.{within, intervalOf}
+use Rattle.paths.specs.Operand.{fragmentIn, tableIn}
 use Rattle.paths.specs.Letters.{intervalAt, reads, Labelled}
-use Rattle.paths.specs.Builder.{stackIn, partsIn, followIn}
+use Rattle.paths.specs.Builder.{stackIn, fragmentsIn, followIn}
 use Rattle.paths.specs.Automaton.{readsIn, Finishes}
 use Rattle.expressions.proofs.Ranges.{last-within, follow-within, length-letters}
-use Rattle.paths.proofs.Intervals.{holds-within}
+use Rattle.expressions.specs.Fragments.{Fragment, Construction, compute, constructionOf, fragmentOf, link}
+use Rattle.labels.proofs.Intervals.{holds-within}
 use Rattle.paths.proofs.Operands.{has-more}
 
 -- ---- after the last word
 
-record Ended (e : Expr) (ws : List ℕ) (ps : List Part) (f : ℕ → ℕ → Bool) : Type 0 where
+record Ended (e : Expr) (ws : List ℕ) (ps : List Fragment) (f : ℕ → ℕ → Bool) : Type 0 where
   pub words : ws ≡ letters e
-  pub parts : ps ≡ partOf e 0 ∷ []
+  pub fragments : ps ≡ fragmentOf e 0 ∷ []
   pub table : f ≡ follow e 0
 
-ended : (e : Expr) (ws : List ℕ) (ps : List Part) (f : ℕ → ℕ → Bool) → compute [] ws ps f ≡ some (tables e) → Ended e ws ps f
+ended : (e : Expr) (ws : List ℕ) (ps : List Fragment) (f : ℕ → ℕ → Bool) → compute [] ws ps f ≡ some (constructionOf e) → Ended e ws ps f
 ended e ws [] f h = let z : _≡_ {A = ℕ} 0 1 = cc in absurd (omega arith)
 ended e ws (a ∷ []) f h =
-    let t : _≡_ {A = Tables} (record { words = ws; whole = a; follows = f }) (tables e) = cc in
-    record { words = ap (λ x. x .words) t; parts = ap (λ x. x .whole ∷ []) t; table = ap (λ x. x .follows) t }
+    let t : _≡_ {A = Construction} (record { words = ws; whole = a; follows = f }) (constructionOf e) = cc in
+    record { words = ap (λ x. x .words) t; fragments = ap (λ x. x .whole ∷ []) t; table = ap (λ x. x .follows) t }
 ended e ws (b ∷ a ∷ s) f h = let z : _≡_ {A = ℕ} 0 1 = cc in absurd (omega arith)
 
 -- the operand that is left
-left : (os : List Operand) (h : ℕ) (a : Part) → stackIn os h ≡ a ∷ [] → partIn (getD os 0 (record { null = false; begins = 0; ends = 0 })) ≡ a
+left : (os : List Operand) (h : ℕ) (a : Fragment) → stackIn os h ≡ a ∷ [] → fragmentIn (getD os 0 (record { null = false; begins = 0; ends = 0 })) ≡ a
 left os zero a e = let z : _≡_ {A = ℕ} 0 1 = cc in absurd (omega arith)
 left os (suc zero) a e = cc
 left os (suc (suc h)) a e = let z : _≡_ {A = ℕ} 0 1 = cc in absurd (omega arith)
@@ -72,7 +72,7 @@ reading-is e l k label p = rw (k .has p, length-letters e) (go p)
   where
     go : (p : ℕ) → (between 1 (count e) p && within (intervalAt l p) label) ≡ (between 1 (count e) p && holds (labelWord e p) label)
     go zero = refl
-    go (suc p) = elim (bool-cases (between 1 (count e) (suc p))) [ inl y ↦ rw y (at (passed y)) | inr n ↦ rw n ]
+    go (suc p) = elim (either (between 1 (count e) (suc p))) [ inl y ↦ rw y (at (passed y)) | inr n ↦ rw n ]
       where
         at : T (between 1 (count e) (suc p)) → within (intervalAt l (suc p)) label ≡ holds (getD (letters e) p 0) label
         at t =
@@ -81,7 +81,7 @@ reading-is e l k label p = rw (k .has p, length-letters e) (go p)
             ap (λ x. within x label) i ∙ holds-within (getD (letters e) p 0) label
 
 pub finish-is : (b : Builder) {whole : Operand} (t : List ℕ) {u : ℕ}
-    → tableIn t ≡ link (tableIn (b .rows)) (partIn (record { null = false; begins = 0; ends = 1 })) (partIn whole)
+    → tableIn t ≡ link (tableIn (b .rows)) (fragmentIn (record { null = false; begins = 0; ends = 1 })) (fragmentIn whole)
     → u ≡ cond (whole .null) 1 0 → whole ≡ getD (b .operands) 0 (record { null = false; begins = 0; ends = 0 })
     → Finishes b (record { follow = t; accepts = bitOr (whole .ends) u; letters = b .letters })
 finish-is b {whole} t {u} h v w e ws l n c =
@@ -93,8 +93,8 @@ finish-is b {whole} t {u} h v w e ws l n c =
       small = omega (arith, same);
     }
   where
-    x : Ended e ws (partsIn b) (followIn b)
-    x = ended e ws (partsIn b) (followIn b) c
+    x : Ended e ws (fragmentsIn b) (followIn b)
+    x = ended e ws (fragmentsIn b) (followIn b) c
 
     same : length ws ≡ count e
     same = ap length (x .words) ∙ length-letters e
@@ -102,11 +102,11 @@ finish-is b {whole} t {u} h v w e ws l n c =
     named : Labelled (b .letters) (letters e)
     named = subst (λ z. Labelled (b .letters) z) (x .words) l
 
-    part : partIn whole ≡ partOf e 0
-    part = ap partIn w ∙ left (b .operands) (b .waiting) (partOf e 0) (x .parts)
+    fragment : fragmentIn whole ≡ fragmentOf e 0
+    fragment = ap fragmentIn w ∙ left (b .operands) (b .waiting) (fragmentOf e 0) (x .fragments)
 
     rows : (q p : ℕ) → (hasState (getD (b .rows) q 0) p || hasState 1 q && hasState (whole .begins) p) ≡ (follow e 0 q p || hasState 1 q && first e 0 p)
-    rows q p = ap (λ f. f q p || hasState 1 q && hasState (whole .begins) p) (x .table) ∙ ap (λ y. follow e 0 q p || hasState 1 q && y .begins p) part
+    rows q p = ap (λ f. f q p || hasState 1 q && hasState (whole .begins) p) (x .table) ∙ ap (λ y. follow e 0 q p || hasState 1 q && y .begins p) fragment
 
     ends : (q : ℕ) → (hasState (whole .ends) q || whole .null && hasState 1 q) ≡ (last e 0 q || nullable e && hasState 1 q)
-    ends q = ap (λ y. y .ends q || y .null && hasState 1 q) part
+    ends q = ap (λ y. y .ends q || y .null && hasState 1 q) fragment

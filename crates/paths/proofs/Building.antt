@@ -16,16 +16,17 @@ use Rattle.files.specs.declared.expr.ExprWord.{ExprWord}
 use Rattle.files.specs.declared.expr.ExprWord.the-variants as variants
 use Rattle.files.specs.declared.expr.Label.{Label}
 use Rattle.files.proofs.Exprs.{label-told, operator-told}
-use Rattle.paths.specs.declared.interval.Interval.{Interval}
+use Rattle.labels.specs.declared.interval.Interval.{Interval}
 use Rattle.paths.specs.declared.letters.Letters.{Letters}
 use Rattle.paths.specs.declared.operand.Operand.{Operand}
 use Rattle.paths.specs.declared.builder.Builder.{Builder}
-use Rattle.expressions.specs.Postfix.{Item, put-empty, put-letter, make-then, make-or, make-star, emptyPart, letterPart, thenPart, orPart, starPart, link, compute}
+use Rattle.expressions.specs.Postfix.{Item, put-empty, put-letter, make-then, make-or, make-star}
 use Rattle.expressions.specs.Labels.{operatorItem, item}
-use Rattle.paths.specs.Interval.{intervalOf}
-use Rattle.paths.specs.Operand.{partIn, tableIn}
-use Rattle.paths.specs.Letters.{Added, Labelled}
-use Rattle.paths.specs.Builder.{stackIn, partsIn, followIn, Starts, Placed, operandsOf, lettersOf, Ready, Does}
+use Rattle.expressions.specs.Fragments.{emptyFragment, letterFragment, thenFragment, orFragment, starFragment, link, compute}
+use Rattle.labels.specs.Interval.{intervalOf}
+use Rattle.paths.specs.Operand.{fragmentIn, tableIn}
+use Rattle.paths.specs.Letters.{AddedLabel, Labelled}
+use Rattle.paths.specs.Builder.{stackIn, fragmentsIn, followIn, Starts, Replaced, operandsOf, lettersOf, Applicable, Does}
 use Rattle.paths.proofs.Lettering.{labelled-more}
 
 abbrev nothing : Operand
@@ -39,24 +40,24 @@ stack-above os k o zero l = refl
 stack-above os k o (suc h) l = rw (getD-set-other os k h o nothing (λ e. omega arith), stack-above os k o h (omega arith))
 
 pub place-is : (b : Builder) (k : ℕ) (o : Operand) → k < mostWaiting → length (b .operands) ≡ mostWaiting
-    → Placed b k o (record { operands = set (b .operands) k o; waiting = k + 1; rows = b .rows; letters = b .letters })
+    → Replaced b k o (record { operands = set (b .operands) k o; waiting = k + 1; rows = b .rows; letters = b .letters })
 place-is b k o l e =
     record {
-      parts = rw (add-one k, getD-set-same (b .operands) k o nothing (omega arith), stack-above (b .operands) k o k (omega arith));
+      fragments = rw (add-one k, getD-set-same (b .operands) k o nothing (omega arith), stack-above (b .operands) k o k (omega arith));
       waiting = refl;
       rows = refl;
       letters = refl;
       sized = length-set (b .operands) k o;
     }
 
-top : (os : List Operand) (h : ℕ) → 1 ≤ h → stackIn os h ≡ partIn (getD os (h - 1) nothing) ∷ stackIn os (h - 1)
+top : (os : List Operand) (h : ℕ) → 1 ≤ h → stackIn os h ≡ fragmentIn (getD os (h - 1) nothing) ∷ stackIn os (h - 1)
 top os zero l = absurd (not-suc-le-zero l)
 top os (suc h) l =
     let e : suc h - 1 ≡ h = omega arith in
     rw e
 
 top-two : (os : List Operand) (h : ℕ) → 2 ≤ h
-    → stackIn os h ≡ partIn (getD os (h - 1) nothing) ∷ partIn (getD os (h - 2) nothing) ∷ stackIn os (h - 2)
+    → stackIn os h ≡ fragmentIn (getD os (h - 1) nothing) ∷ fragmentIn (getD os (h - 2) nothing) ∷ stackIn os (h - 2)
 top-two os zero l = absurd (not-suc-le-zero l)
 top-two os (suc zero) l = absurd (omega arith)
 top-two os (suc (suc h)) l =
@@ -74,44 +75,44 @@ rows-none (suc n) (suc q) p = rows-none n q p
 pub start-is : (os : List Operand) {ls : Letters} → length os ≡ mostWaiting → Labelled ls [] → Starts (record { operands = os; waiting = 0; rows = replicate 16 0; letters = ls })
 start-is os e l = record { sized = e; waiting = refl; rows = fun-ext λ q. fun-ext λ p. rows-none 16 q p; letters = l }
 
--- an item without letters, by what it makes of the parts and the table
-done : (it : Item) {b r : Builder} {k : ℕ} {o : Operand} (t : List ℕ) → lettersOf it ≡ [] → k ≡ b .waiting - operandsOf it → Placed b k o r
-    → ((is : List Item) (ws : List ℕ) → compute (it ∷ is) ws (partsIn b) (followIn b) ≡ compute is ws (partIn o ∷ stackIn (b .operands) k) (tableIn t))
+-- an item without letters, by what it makes of the fragments and the table
+done : (it : Item) {b r : Builder} {k : ℕ} {o : Operand} (t : List ℕ) → lettersOf it ≡ [] → k ≡ b .waiting - operandsOf it → Replaced b k o r
+    → ((is : List Item) (ws : List ℕ) → compute (it ∷ is) ws (fragmentsIn b) (followIn b) ≡ compute is ws (fragmentIn o ∷ stackIn (b .operands) k) (tableIn t))
     → Does it b (record { operands = r .operands; waiting = r .waiting; rows = t; letters = r .letters })
 done it t none e p c =
     record {
-      computes = λ is ws n. rw (none, append-nil, p .parts) (c is ws);
+      computes = λ is ws n. rw (none, append-nil, p .fragments) (c is ws);
       letters = λ ws l. rw (none, append-nil, p .letters) l;
       waiting = omega (arith, p .waiting);
       sized = p .sized;
     }
 
-pub nothing-does : {b r : Builder} {o : Operand} → Placed b (b .waiting) o r → partIn o ≡ emptyPart → Does put-empty b r
+pub nothing-does : {b r : Builder} {o : Operand} → Replaced b (b .waiting) o r → fragmentIn o ≡ emptyFragment → Does put-empty b r
 nothing-does {b} {r} p e = done put-empty (r .rows) refl (omega arith) p (λ is ws. rw (p .rows, e))
 
-pub or-does : {b r : Builder} {o x y : Operand} → Placed b (b .waiting - 2) o r → partIn o ≡ orPart (partIn x) (partIn y)
-    → x ≡ getD (b .operands) (b .waiting - 2) nothing → y ≡ getD (b .operands) (b .waiting - 1) nothing → Ready make-or b → Does make-or b r
+pub or-does : {b r : Builder} {o x y : Operand} → Replaced b (b .waiting - 2) o r → fragmentIn o ≡ orFragment (fragmentIn x) (fragmentIn y)
+    → x ≡ getD (b .operands) (b .waiting - 2) nothing → y ≡ getD (b .operands) (b .waiting - 1) nothing → Applicable make-or b → Does make-or b r
 or-does {b} {r} p e f g h =
     done make-or (r .rows) refl refl p (λ is ws. rw (p .rows, e, f, g, top-two (b .operands) (b .waiting) (h .enough)))
 
-pub then-does : {b r : Builder} {o x y : Operand} (t : List ℕ) → Placed b (b .waiting - 2) o r → partIn o ≡ thenPart (partIn x) (partIn y)
-    → tableIn t ≡ link (tableIn (b .rows)) (partIn x) (partIn y)
-    → x ≡ getD (b .operands) (b .waiting - 2) nothing → y ≡ getD (b .operands) (b .waiting - 1) nothing → Ready make-then b
+pub then-does : {b r : Builder} {o x y : Operand} (t : List ℕ) → Replaced b (b .waiting - 2) o r → fragmentIn o ≡ thenFragment (fragmentIn x) (fragmentIn y)
+    → tableIn t ≡ link (tableIn (b .rows)) (fragmentIn x) (fragmentIn y)
+    → x ≡ getD (b .operands) (b .waiting - 2) nothing → y ≡ getD (b .operands) (b .waiting - 1) nothing → Applicable make-then b
     → Does make-then b (record { operands = r .operands; waiting = r .waiting; rows = t; letters = r .letters })
 then-does {b} t p e k f g h =
     done make-then t refl refl p (λ is ws. rw (k, e, f, g, top-two (b .operands) (b .waiting) (h .enough)))
 
-pub star-does : {b r : Builder} {o x : Operand} (t : List ℕ) → Placed b (b .waiting - 1) o r → partIn o ≡ starPart (partIn x)
-    → tableIn t ≡ link (tableIn (b .rows)) (partIn x) (partIn x) → x ≡ getD (b .operands) (b .waiting - 1) nothing → Ready make-star b
+pub star-does : {b r : Builder} {o x : Operand} (t : List ℕ) → Replaced b (b .waiting - 1) o r → fragmentIn o ≡ starFragment (fragmentIn x)
+    → tableIn t ≡ link (tableIn (b .rows)) (fragmentIn x) (fragmentIn x) → x ≡ getD (b .operands) (b .waiting - 1) nothing → Applicable make-star b
     → Does make-star b (record { operands = r .operands; waiting = r .waiting; rows = t; letters = r .letters })
 star-does {b} t p e k f h = done make-star t refl refl p (λ is ws. rw (k, e, f, top (b .operands) (b .waiting) (h .enough)))
 
-pub label-does : {b r : Builder} {ls : Letters} {i : Interval} {l : Label} {o : Operand} → Added (b .letters) i ls → i ≡ intervalOf l
-    → Placed b (b .waiting) o r → partIn o ≡ letterPart (ls .n) → b .letters .n + 1 ≤ 15
+pub label-does : {b r : Builder} {ls : Letters} {i : Interval} {l : Label} {o : Operand} → AddedLabel (b .letters) i ls → i ≡ intervalOf l
+    → Replaced b (b .waiting) o r → fragmentIn o ≡ letterFragment (ls .n) → b .letters .n + 1 ≤ 15
     → (w : ℕ) → l ≡ labelAt w → Does (put-letter w) b (record { operands = r .operands; waiting = r .waiting; rows = r .rows; letters = ls })
 label-does {b} {r} {ls} a f p e h w g =
     record {
-      computes = λ is ws n. rw (p .parts, p .rows, e, a .count, n);
+      computes = λ is ws n. rw (p .fragments, p .rows, e, a .count, n);
       letters = λ ws k. labelled-more w a k (f ∙ ap intervalOf g) (omega arith);
       waiting = omega (arith, p .waiting);
       sized = p .sized;
@@ -119,8 +120,8 @@ label-does {b} {r} {ls} a f p e h w g =
 
 -- ---- which item a word is
 
-pub ready-as : {it it′ : Item} {b : Builder} → it′ ≡ it → Ready it b → Ready it′ b
-ready-as e h = rw e h
+pub applicable-as : {it it′ : Item} {b : Builder} → it′ ≡ it → Applicable it b → Applicable it′ b
+applicable-as e h = rw e h
 
 pub does-as : {it it′ : Item} {b r : Builder} → it ≡ it′ → Does it b r → Does it′ b r
 does-as {b = b} {r = r} e h = subst (λ i. Does i b r) e h
@@ -148,5 +149,5 @@ module _ (w : ℕ) {e : ExprWord} (r : e ≡ exprAt w) where
   word-operator h = let t = operator-told w r h in rw (t .1, t .2)
 
 -- every label word asks the same
-pub ready-label : {b : Builder} (w : ℕ) → Ready (put-letter w) b → Ready (put-letter 0) b
-ready-label w h = record { enough = h .enough; most = h .most; sized = h .sized; room = h .room; few = h .few }
+pub applicable-label : {b : Builder} (w : ℕ) → Applicable (put-letter w) b → Applicable (put-letter 0) b
+applicable-label w h = record { enough = h .enough; most = h .most; sized = h .sized; room = h .room; few = h .few }

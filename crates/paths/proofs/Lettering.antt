@@ -14,11 +14,11 @@ use Rattle.sets.proofs.Cases.{by-eq, lt-or-le}
 use Rattle.sets.proofs.Tests.{same-test, or-iff, and-iff, le-iff, eq-iff, or-left, or-right, both}
 use Rattle.sets.proofs.StateSets.{has-or, has-empty}
 use Rattle.paths.specs.declared.letters.Letters.{Letters}
-use Rattle.paths.specs.declared.interval.Interval.{Interval}
+use Rattle.labels.specs.declared.interval.Interval.{Interval}
 use Rattle.files.specs.Expr.{labelAt}
 use Rattle.expressions.specs.Labels.{between}
-use Rattle.paths.specs.Interval.{within, intervalOf}
-use Rattle.paths.specs.Letters.{intervalAt, reads, Added, Labelled}
+use Rattle.labels.specs.Interval.{within, intervalOf}
+use Rattle.paths.specs.Letters.{intervalAt, reads, AddedLabel, Labelled}
 use Rattle.paths.proofs.Operands.{has-only}
 
 -- what is gathered, with what the positions that are left still give
@@ -82,7 +82,7 @@ between-more n p = same-test up down
         (λ l. or-right (between 1 n p) (eqb p (n + 1)) (eq-iff p (n + 1) .1 (omega arith)))
         (lt-or-le p (n + 1))
 
-pub labelled-more : {l r : Letters} {i : Interval} {ws : List ℕ} (w : ℕ) → Added l i r → Labelled l ws → i ≡ intervalOf (labelAt w) → l .n < 15 → Labelled r (ws ++ w ∷ [])
+pub labelled-more : {l r : Letters} {i : Interval} {ws : List ℕ} (w : ℕ) → AddedLabel l i r → Labelled l ws → i ≡ intervalOf (labelAt w) → l .n < 15 → Labelled r (ws ++ w ∷ [])
 labelled-more {l} {r} {i} {ws} w a k e h =
     record {
       sixteen = rw (a .intervals, length-set) (k .sixteen);

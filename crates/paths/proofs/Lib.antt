@@ -1,7 +1,5 @@
-pub mod Intervals
 pub mod Operands
 pub mod Lettering
 pub mod Building
 pub mod Automata
 pub mod Words
-pub mod Stepping

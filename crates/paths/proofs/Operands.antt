@@ -1,4 +1,4 @@
--- The operations on sets of states are those of the parts and of the table that the sets say. Assumes nothing.
+-- The operations on sets of states are those of the fragments and of the table that the sets say. Assumes nothing.
 use mathlib.Core.Path.{_≡_, refl, _∙_, fun-ext}
 use mathlib.Core.Bool.{Bool, true, false, cond, not, _&&_, _||_, and-true, or-false}
 use mathlib.Core.List.{List}
@@ -11,19 +11,19 @@ use lib.Seq.{getD-set-same, getD-set-other}
 use Rattle.sets.specs.States.{hasState, Lowest, Rest}
 use Rattle.sets.proofs.Cases.{by-eq}
 use Rattle.sets.proofs.StateSets.{has-or, has-empty}
-use Rattle.expressions.specs.Postfix.{Part, emptyPart, letterPart, thenPart, orPart}
-use Rattle.paths.specs.Operand.{partIn, tableIn}
+use Rattle.expressions.specs.Fragments.{Fragment, emptyFragment, letterFragment, thenFragment, orFragment}
+use Rattle.paths.specs.Operand.{fragmentIn, tableIn}
 use Rattle.paths.specs.declared.operand.Operand.{Operand}
 
-part-ext : {n m : Bool} {f g l k : ℕ → Bool} → n ≡ m → ((p : ℕ) → f p ≡ g p) → ((p : ℕ) → l p ≡ k p)
-    → _≡_ {A = Part} (record { null = n; begins = f; ends = l }) (record { null = m; begins = g; ends = k })
-part-ext e f l = λ i. record { null = e i; begins = λ p. f p i; ends = λ p. l p i }
+fragment-ext : {n m : Bool} {f g l k : ℕ → Bool} → n ≡ m → ((p : ℕ) → f p ≡ g p) → ((p : ℕ) → l p ≡ k p)
+    → _≡_ {A = Fragment} (record { null = n; begins = f; ends = l }) (record { null = m; begins = g; ends = k })
+fragment-ext e f l = λ i. record { null = e i; begins = λ p. f p i; ends = λ p. l p i }
 
-pub empty-is : partIn (record { null = true; begins = 0; ends = 0 }) ≡ emptyPart
-empty-is = part-ext refl has-empty has-empty
+pub empty-is : fragmentIn (record { null = true; begins = 0; ends = 0 }) ≡ emptyFragment
+empty-is = fragment-ext refl has-empty has-empty
 
-pub letter-is : (p s : ℕ) → ((q : ℕ) → hasState s q ≡ (hasState 0 q || eqb q p)) → partIn (record { null = false; begins = s; ends = s }) ≡ letterPart p
-letter-is p s h = part-ext refl one one
+pub letter-is : (p s : ℕ) → ((q : ℕ) → hasState s q ≡ (hasState 0 q || eqb q p)) → fragmentIn (record { null = false; begins = s; ends = s }) ≡ letterFragment p
+letter-is p s h = fragment-ext refl one one
   where
     one : (q : ℕ) → hasState s q ≡ eqb q p
     one q = h q ∙ rw has-empty
@@ -37,12 +37,12 @@ pub has-more : (b : Bool) (s t : ℕ) {u : ℕ} → u ≡ cond b t 0 → (p : �
 has-more b s t e p = rw (e, has-or s (cond b t 0) p, has-only)
 
 pub then-is : (a b : Operand) {u v : ℕ} → u ≡ cond (a .null) (b .begins) 0 → v ≡ cond (b .null) (a .ends) 0
-    → partIn (record { null = a .null && b .null; begins = bitOr (a .begins) u; ends = bitOr (b .ends) v }) ≡ thenPart (partIn a) (partIn b)
-then-is a b e f = part-ext refl (has-more (a .null) (a .begins) (b .begins) e) (has-more (b .null) (b .ends) (a .ends) f)
+    → fragmentIn (record { null = a .null && b .null; begins = bitOr (a .begins) u; ends = bitOr (b .ends) v }) ≡ thenFragment (fragmentIn a) (fragmentIn b)
+then-is a b e f = fragment-ext refl (has-more (a .null) (a .begins) (b .begins) e) (has-more (b .null) (b .ends) (a .ends) f)
 
 pub or-is : (a b : Operand)
-    → partIn (record { null = a .null || b .null; begins = bitOr (a .begins) (b .begins); ends = bitOr (a .ends) (b .ends) }) ≡ orPart (partIn a) (partIn b)
-or-is a b = part-ext refl (has-or (a .begins) (b .begins)) (has-or (a .ends) (b .ends))
+    → fragmentIn (record { null = a .null || b .null; begins = bitOr (a .begins) (b .begins); ends = bitOr (a .ends) (b .ends) }) ≡ orFragment (fragmentIn a) (fragmentIn b)
+or-is a b = fragment-ext refl (has-or (a .begins) (b .begins)) (has-or (a .ends) (b .ends))
 
 -- ---- the table: the rows so far, with what the states that are left still give
 

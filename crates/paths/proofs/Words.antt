@@ -19,13 +19,14 @@ use Rattle.files.proofs.Reading.{taken, ended}
 use Rattle.paths.specs.declared.builder.Builder.{Builder}
 use Rattle.paths.specs.declared.automaton.Automaton.{Automaton}
 use Rattle.expressions.specs.Expr.{Expr}
-use Rattle.expressions.specs.Postfix.{put-letter, compute, tables}
+use Rattle.expressions.specs.Postfix.{put-letter}
 use Rattle.expressions.specs.Labels.{operatorItem, item, exprOf}
 use Rattle.paths.specs.Letters.{Labelled}
-use Rattle.paths.specs.Builder.{partsIn, followIn, Starts, operandsOf, lettersOf, Ready, Does}
+use Rattle.paths.specs.Builder.{fragmentsIn, followIn, Starts, operandsOf, lettersOf, Applicable, Does}
 use Rattle.paths.specs.Automaton.{Automates, Finishes}
 use Rattle.expressions.proofs.Postfix.{compute-read}
 use Rattle.expressions.proofs.Paths.{path-reads}
+use Rattle.expressions.specs.Fragments.{compute, constructionOf}
 
 -- what a word takes, and what it adds to the label words, by its item
 takes-is : (w : ℕ) → operandsOf (item w) ≡ takes w
@@ -53,7 +54,7 @@ letters-are w ws = go (isLabel w) (operatorOf w)
 pub record Building (e : Expr) (left : List ℕ) (b : Builder) : Type 0 where
   pub seen : List ℕ
   pub labelled : Labelled (b .letters) seen
-  pub computes : compute (map item left) seen (partsIn b) (followIn b) ≡ some (tables e)
+  pub computes : compute (map item left) seen (fragmentsIn b) (followIn b) ≡ some (constructionOf e)
   pub scans : scan (b .waiting) left ≡ 0
   pub few : length seen + length (filter isLabel left) ≤ 15
   pub most : b .waiting ≤ mostWaiting
@@ -66,7 +67,7 @@ building-first (h ∷ ws) {b} ok s =
     record {
       seen = [];
       labelled = s .letters;
-      computes = rw (s .waiting, s .rows) (compute-read (map item ws) ∙ ap (Option·map tables) (path-reads (h ∷ ws) ok));
+      computes = rw (s .waiting, s .rows) (compute-read (map item ws) ∙ ap (Option·map constructionOf) (path-reads (h ∷ ws) ok));
       scans = rw (s .waiting) (k .1 .0);
       few = omega (arith, k .1 .1);
       most = omega (arith, s .waiting);
@@ -77,8 +78,8 @@ module _ {e : Expr} {w : ℕ} {ws : List ℕ} {b : Builder} (h : Building e (w �
   building-right : exprCheck w ≡ 0
   building-right = (simp then-iff at (h .scans)) .0 .0
 
-  building-ready : Ready (item w) b
-  building-ready =
+  building-applicable : Applicable (item w) b
+  building-applicable =
       let k = simp checks at (h .scans) in
       record {
         enough = omega (arith, takes-is w, k .0 .1 .0);
@@ -117,8 +118,8 @@ module _ {path : List ℕ} {k : ℕ} {b : Builder} {r : Step} (h : Reading path 
   pub reading-right : {w : ℕ} {c : Cursor} → r ≡ Word w c → exprCheck w ≡ 0
   reading-right a = building-right (rest a)
 
-  pub reading-ready : {w : ℕ} {c : Cursor} → r ≡ Word w c → Ready (item w) b
-  reading-ready a = building-ready (rest a)
+  pub reading-applicable : {w : ℕ} {c : Cursor} → r ≡ Word w c → Applicable (item w) b
+  reading-applicable a = building-applicable (rest a)
 
   pub reading-more : {w : ℕ} {c : Cursor} {b′ : Builder} → r ≡ Word w c → Does (item w) b b′ → Reading path (c .at) b′
   reading-more a d = record { left = building-more (rest a) d }

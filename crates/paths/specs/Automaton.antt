@@ -1,4 +1,4 @@
--- A program's automaton is the position automaton of an expression.
+-- Inner. A program's automaton is the position automaton of an expression.
 use mathlib.Core.Path.{_≡_}
 use mathlib.Core.Bool.{Bool, _&&_}
 use mathlib.Core.List.{List, []}
@@ -8,10 +8,10 @@ use lib.ListN.{length, getD}
 use Rattle.sets.specs.States.{hasState}
 use Rattle.expressions.specs.Expr.{Expr, count}
 use Rattle.expressions.specs.Positions.{next, accepts, labelWord}
-use Rattle.expressions.specs.Postfix.{compute, tables}
 use Rattle.expressions.specs.Labels.{between, holds}
+use Rattle.expressions.specs.Fragments.{compute, constructionOf}
 use Rattle.paths.specs.Letters.{reads, Labelled}
-use Rattle.paths.specs.Builder.{partsIn, followIn}
+use Rattle.paths.specs.Builder.{fragmentsIn, followIn}
 use Rattle.paths.specs.declared.automaton.Automaton.{Automaton}
 use Rattle.paths.specs.declared.builder.Builder.{Builder}
 
@@ -30,4 +30,4 @@ pub record Automates (a : Automaton) (e : Expr) : Type 0 where
 -- after the last word: where `compute` has the tables of an expression, a is its automaton
 abbrev pub Finishes : Builder → Automaton → Type 0
 Finishes b a =
-    (e : Expr) (ws : List ℕ) → Labelled (b .letters) ws → length ws ≤ 15 → compute [] ws (partsIn b) (followIn b) ≡ some (tables e) → Automates a e
+    (e : Expr) (ws : List ℕ) → Labelled (b .letters) ws → length ws ≤ 15 → compute [] ws (fragmentsIn b) (followIn b) ≡ some (constructionOf e) → Automates a e

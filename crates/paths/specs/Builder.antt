@@ -1,23 +1,24 @@
--- What the construction of the automaton holds, and what a word does to it: the step that `compute` takes.
+-- Inner. What the construction of the automaton holds, and what a word does to it: the step that `compute` takes.
 use mathlib.Core.Path.{_≡_}
 use mathlib.Core.Bool.{Bool, false}
 use mathlib.Core.List.{List, [], _∷_, _++_}
 use Prim.Native.Nat.{ℕ, zero, suc, _+_, _-_, _≤_}
 use lib.ListN.{length, getD}
 use Rattle.files.specs.Path.{mostWaiting}
-use Rattle.expressions.specs.Postfix.{Item, put-empty, put-letter, make-then, make-or, make-star, Part, compute}
-use Rattle.paths.specs.Operand.{partIn, tableIn}
+use Rattle.expressions.specs.Postfix.{Item, put-empty, put-letter, make-then, make-or, make-star}
+use Rattle.expressions.specs.Fragments.{Fragment, compute}
+use Rattle.paths.specs.Operand.{fragmentIn, tableIn}
 use Rattle.paths.specs.Letters.{Labelled}
 use Rattle.paths.specs.declared.operand.Operand.{Operand}
 use Rattle.paths.specs.declared.builder.Builder.{Builder}
 
 -- the first h operands, the last of them first
-abbrev pub stackIn : List Operand → ℕ → List Part
+abbrev pub stackIn : List Operand → ℕ → List Fragment
 stackIn os zero = []
-stackIn os (suc h) = partIn (getD os h (record { null = false; begins = 0; ends = 0 })) ∷ stackIn os h
+stackIn os (suc h) = fragmentIn (getD os h (record { null = false; begins = 0; ends = 0 })) ∷ stackIn os h
 
-abbrev pub partsIn : Builder → List Part
-partsIn b = stackIn (b .operands) (b .waiting)
+abbrev pub fragmentsIn : Builder → List Fragment
+fragmentsIn b = stackIn (b .operands) (b .waiting)
 
 abbrev pub followIn : Builder → ℕ → ℕ → Bool
 followIn b = tableIn (b .rows)
@@ -30,8 +31,8 @@ pub record Starts (b : Builder) : Type 0 where
   pub letters : Labelled (b .letters) []
 
 -- r is b with the operand o in place of those that wait from index k on
-pub record Placed (b : Builder) (k : ℕ) (o : Operand) (r : Builder) : Type 0 where
-  pub parts : partsIn r ≡ partIn o ∷ stackIn (b .operands) k
+pub record Replaced (b : Builder) (k : ℕ) (o : Operand) (r : Builder) : Type 0 where
+  pub fragments : fragmentsIn r ≡ fragmentIn o ∷ stackIn (b .operands) k
   pub waiting : r .waiting ≡ k + 1
   pub rows : r .rows ≡ b .rows
   pub letters : r .letters ≡ b .letters
@@ -53,7 +54,7 @@ lettersOf make-or = []
 lettersOf make-star = []
 
 -- there are operands for the item, and room for what it makes
-pub record Ready (it : Item) (b : Builder) : Type 0 where
+pub record Applicable (it : Item) (b : Builder) : Type 0 where
   pub enough : operandsOf it ≤ b .waiting
   pub most : b .waiting ≤ mostWaiting
   pub sized : length (b .operands) ≡ mostWaiting
@@ -63,7 +64,7 @@ pub record Ready (it : Item) (b : Builder) : Type 0 where
 -- r is what the item makes of b: for any items and label words, `compute` goes on from r
 pub record Does (it : Item) (b r : Builder) : Type 0 where
   pub computes : (is : List Item) (ws : List ℕ) → b .letters .n ≡ length ws
-      → compute (it ∷ is) ws (partsIn b) (followIn b) ≡ compute is (ws ++ lettersOf it) (partsIn r) (followIn r)
+      → compute (it ∷ is) ws (fragmentsIn b) (followIn b) ≡ compute is (ws ++ lettersOf it) (fragmentsIn r) (followIn r)
   pub letters : (ws : List ℕ) → Labelled (b .letters) ws → Labelled (r .letters) (ws ++ lettersOf it)
   pub waiting : r .waiting ≡ suc (b .waiting - operandsOf it)
   pub sized : length (r .operands) ≡ length (b .operands)

@@ -1,4 +1,4 @@
--- The positions of an expression with the labels that each reads.
+-- Inner. The positions of an expression with the labels that each reads.
 use mathlib.Core.Path.{_≡_}
 use mathlib.Core.Bool.{Bool, _&&_, _||_}
 use mathlib.Core.List.{List}
@@ -7,10 +7,10 @@ use lib.Dec.{eqb}
 use lib.ListN.{length, getD, set}
 use Rattle.sets.specs.States.{hasState}
 use Rattle.files.specs.Expr.{labelAt}
-use Rattle.paths.specs.declared.interval.Interval.{Interval}
+use Rattle.labels.specs.declared.interval.Interval.{Interval}
 use Rattle.paths.specs.declared.letters.Letters.{Letters}
 use Rattle.expressions.specs.Labels.{between}
-use Rattle.paths.specs.Interval.{within, intervalOf}
+use Rattle.labels.specs.Interval.{within, intervalOf}
 
 -- the interval of position p
 abbrev pub intervalAt : Letters → ℕ → Interval
@@ -21,7 +21,7 @@ abbrev pub reads : Letters → ℕ → ℕ → Bool
 reads l label p = hasState (l .positions) p && within (intervalAt l p) label
 
 -- r is l with one more position, which has the interval i
-pub record Added (l : Letters) (i : Interval) (r : Letters) : Type 0 where
+pub record AddedLabel (l : Letters) (i : Interval) (r : Letters) : Type 0 where
   pub count : r .n ≡ l .n + 1
   pub has : (p : ℕ) → hasState (r .positions) p ≡ (hasState (l .positions) p || eqb p (l .n + 1))
   pub intervals : r .intervals ≡ set (l .intervals) (l .n + 1) i

@@ -1,4 +1,3 @@
-pub mod Interval
 pub mod Operand
 pub mod Letters
 pub mod Builder

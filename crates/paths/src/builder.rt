@@ -7,8 +7,7 @@ ghost use Rattle.files.specs.Path.{mostWaiting};
 ghost use Rattle.files.specs.Expr.{exprCheck, labelAt};
 ghost use Rattle.expressions.specs.Postfix.{put-empty, put-letter, make-then, make-or, make-star};
 ghost use Rattle.expressions.specs.Labels.{operatorItem, item};
-ghost use Rattle.paths.specs.Builder.{Starts, Placed, Ready, Does};
-use super::interval::resolve;
+ghost use Rattle.paths.specs.Builder.{Starts, Replaced, Applicable, Does};
 use super::letters::Letters;
 use super::letters::add;
 use super::letters::none;
@@ -22,6 +21,7 @@ use super::table::link;
 use files::expr::ExprWord;
 use files::expr::Label;
 use files::expr::read_expr;
+use labels::interval::resolve;
 
 // The most operands that wait at any word.
 pub const MOST_WAITING: usize = 16;
@@ -52,7 +52,7 @@ pub fn start() -> Builder
 // The operand o in place of those that wait from index `at` on.
 fn place(b: Builder, at: usize, o: Operand) -> Builder
     requires { ⌜ (at < mostWaiting) × (length (b .operands) ≡ mostWaiting) ⌝ }
-    ensures { λ r. ⌜ Placed b at o r ⌝ }
+    ensures { λ r. ⌜ Replaced b at o r ⌝ }
 {
     let mut r = b;
     r.operands[at] = o;
@@ -61,7 +61,7 @@ fn place(b: Builder, at: usize, o: Operand) -> Builder
 }
 
 fn put_nothing(b: Builder) -> Builder
-    requires { ⌜ Ready put-empty b ⌝ }
+    requires { ⌜ Applicable put-empty b ⌝ }
     ensures { λ r. ⌜ Does put-empty b r ⌝ }
 {
     let at = b.waiting;
@@ -69,7 +69,7 @@ fn put_nothing(b: Builder) -> Builder
 }
 
 fn put_label(b: Builder, l: Label) -> Builder
-    requires { ⌜ Ready (put-letter 0) b ⌝ }
+    requires { ⌜ Applicable (put-letter 0) b ⌝ }
     ensures { λ r. ⌜ ((w : ℕ) → l ≡ labelAt w → Does (put-letter w) b r) ⌝ }
 {
     let at = b.waiting;
@@ -81,7 +81,7 @@ fn put_label(b: Builder, l: Label) -> Builder
 }
 
 fn make_then(b: Builder) -> Builder
-    requires { ⌜ Ready make-then b ⌝ }
+    requires { ⌜ Applicable make-then b ⌝ }
     ensures { λ r. ⌜ Does make-then b r ⌝ }
 {
     let j = b.waiting - 1;
@@ -96,7 +96,7 @@ fn make_then(b: Builder) -> Builder
 }
 
 fn make_or(b: Builder) -> Builder
-    requires { ⌜ Ready make-or b ⌝ }
+    requires { ⌜ Applicable make-or b ⌝ }
     ensures { λ r. ⌜ Does make-or b r ⌝ }
 {
     let j = b.waiting - 1;
@@ -108,7 +108,7 @@ fn make_or(b: Builder) -> Builder
 
 // What begins the operand may also follow what ends it.
 fn make_star(b: Builder) -> Builder
-    requires { ⌜ Ready make-star b ⌝ }
+    requires { ⌜ Applicable make-star b ⌝ }
     ensures { λ r. ⌜ Does make-star b r ⌝ }
 {
     let i = b.waiting - 1;
@@ -121,7 +121,7 @@ fn make_star(b: Builder) -> Builder
 }
 
 fn operate(b: Builder, k: u32) -> Builder
-    requires { ⌜ Ready (operatorItem k) b ⌝ }
+    requires { ⌜ Applicable (operatorItem k) b ⌝ }
     ensures { λ r. ⌜ Does (operatorItem k) b r ⌝ }
 {
     match k {
@@ -135,7 +135,7 @@ fn operate(b: Builder, k: u32) -> Builder
 // One word more.
 pub fn step(b: Builder, w: u32) -> Builder
     requires { ⌜ exprCheck w ≡ 0 ⌝ }
-    requires { ⌜ Ready (item w) b ⌝ }
+    requires { ⌜ Applicable (item w) b ⌝ }
     ensures { λ r. ⌜ Does (item w) b r ⌝ }
 {
     match read_expr(w) {

@@ -3,10 +3,10 @@ ghost use mathlib.Core.Path.{_≡_};
 ghost use mathlib.Core.List.{[]};
 ghost use Prim.Native.Nat.{ℕ, _<_};
 ghost use Rattle.sets.specs.States.{hasState};
-ghost use Rattle.paths.specs.Letters.{reads, Added, Labelled};
-use super::interval::Interval;
-use super::interval::holds;
+ghost use Rattle.paths.specs.Letters.{reads, AddedLabel, Labelled};
 use super::operand::only;
+use labels::interval::Interval;
+use labels::interval::holds;
 use sets::states::lowest;
 use sets::states::with;
 use sets::states::without_lowest;
@@ -30,7 +30,7 @@ pub fn none() -> Letters
 // One more position, which reads the labels of i.
 pub fn add(l: Letters, i: Interval) -> Letters
     requires { ⌜ l .n < 15 ⌝ }
-    ensures { λ r. ⌜ Added l i r ⌝ }
+    ensures { λ r. ⌜ AddedLabel l i r ⌝ }
 {
     let mut r = l;
     let p = l.n + 1;

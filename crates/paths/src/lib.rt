@@ -1,7 +1,6 @@
 // The position automaton of a path, from the path's bytes.
 pub mod automaton;
 pub mod builder;
-pub mod interval;
 pub mod letters;
 pub mod operand;
 pub mod table;

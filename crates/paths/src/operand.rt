@@ -2,8 +2,8 @@
 ghost use mathlib.Core.Path.{_≡_};
 ghost use mathlib.Core.Bool.{cond};
 ghost use Prim.Native.Nat.{_<_};
-ghost use Rattle.expressions.specs.Postfix.{emptyPart, letterPart, thenPart, orPart, starPart};
-ghost use Rattle.paths.specs.Operand.{partIn};
+ghost use Rattle.expressions.specs.Fragments.{emptyFragment, letterFragment, thenFragment, orFragment, starFragment};
+ghost use Rattle.paths.specs.Operand.{fragmentIn};
 use sets::states::with;
 
 pub struct Operand {
@@ -13,7 +13,7 @@ pub struct Operand {
 }
 
 pub fn empty() -> Operand
-    ensures { λ r. ⌜ partIn r ≡ emptyPart ⌝ }
+    ensures { λ r. ⌜ fragmentIn r ≡ emptyFragment ⌝ }
 {
     Operand {
         null: true,
@@ -25,7 +25,7 @@ pub fn empty() -> Operand
 // Position p alone.
 pub fn letter(p: u32) -> Operand
     requires { ⌜ p < 16 ⌝ }
-    ensures { λ r. ⌜ partIn r ≡ letterPart p ⌝ }
+    ensures { λ r. ⌜ fragmentIn r ≡ letterFragment p ⌝ }
 {
     let s = with(0, p);
     Operand {
@@ -43,7 +43,7 @@ pub fn only(b: bool, s: u16) -> u16
 }
 
 pub fn then(a: Operand, b: Operand) -> Operand
-    ensures { λ r. ⌜ partIn r ≡ thenPart (partIn a) (partIn b) ⌝ }
+    ensures { λ r. ⌜ fragmentIn r ≡ thenFragment (fragmentIn a) (fragmentIn b) ⌝ }
 {
     Operand {
         null: a.null & b.null,
@@ -53,7 +53,7 @@ pub fn then(a: Operand, b: Operand) -> Operand
 }
 
 pub fn or(a: Operand, b: Operand) -> Operand
-    ensures { λ r. ⌜ partIn r ≡ orPart (partIn a) (partIn b) ⌝ }
+    ensures { λ r. ⌜ fragmentIn r ≡ orFragment (fragmentIn a) (fragmentIn b) ⌝ }
 {
     Operand {
         null: a.null | b.null,
@@ -63,7 +63,7 @@ pub fn or(a: Operand, b: Operand) -> Operand
 }
 
 pub fn star(a: Operand) -> Operand
-    ensures { λ r. ⌜ partIn r ≡ starPart (partIn a) ⌝ }
+    ensures { λ r. ⌜ fragmentIn r ≡ starFragment (fragmentIn a) ⌝ }
 {
     Operand {
         null: true,

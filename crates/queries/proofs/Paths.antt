@@ -29,7 +29,7 @@ use Rattle.files.specs.Expr.{exprCheck, exprAt}
 use Rattle.files.proofs.Checks.{checks, passed-first, refused-first}
 use Rattle.files.proofs.Exprs.{expr-wrong, label-told, operator-told, wrong-told}
 use Rattle.files.proofs.Scans.{Scanning, scanning-refused, scanning-more, scanning-last}
-use Rattle.readers.proofs.Counts.{Counting, counting-first, counting-one, counting-fits, counting-none, counting-last}
+use Rattle.files.proofs.Counts.{Counting, counting-first, counting-one, counting-fits, counting-none, counting-last}
 
 -- the operands of an operator, for the proof of `operands`
 pub operands-are : (op : ℕ) {a r : ℕ} → a ≡ cond (eqb op 1 || eqb op 2) 2 0 → r ≡ cond (eqb op 3) 1 a → r ≡ getD (0 ∷ 2 ∷ 2 ∷ 1 ∷ []) op 0
@@ -103,7 +103,7 @@ module _ {s : List ℕ} {waiting count k : ℕ} {r : Step} (f : Checking s waiti
     checking-refused z = refused-first _ _ z (scanning-refused (f .scanning) q a (g w x) z)
 
     module _ (z : n ≡ 0) where
-      -- it finds its operands, and there is room for what it leaves
+      -- the word finds its operands, and there is room for what it leaves
       right : (exprCheck w ≡ 0) × ((takes w ≤ waiting) × (suc (waiting - takes w) ≤ mostWaiting))
       right = simp checks at (sym (g w x) ∙ z)
 

@@ -4,6 +4,7 @@ use files::cursor::Step;
 use files::expr::ExprWord;
 use files::expr::read_expr;
 use files::field::labels;
+use files::limits::PATH_WORDS;
 use files::refuse::check_file;
 use files::refuse::choose;
 use files::refuse::first;
@@ -19,6 +20,7 @@ ghost use Rattle.files.specs.Word.{words};
 ghost use Rattle.files.specs.Refuse.{_then_, _unless_, sizeCheck};
 ghost use Rattle.files.specs.Path.{isLabel, mostWaiting, takes as takesOf, wordCheck, bodyCheck, pathCheck};
 ghost use Rattle.files.specs.Expr.{exprCheck, exprAt};
+ghost use Rattle.files.specs.Limits.{pathWords};
 
 // The most operands that wait at any word.
 const MOST_WAITING: u32 = 16;
@@ -102,9 +104,9 @@ fn check_body(bytes: &[u8]) -> u32
 
 // The number of the refusal of a path, 0 where it is one.
 pub fn check_path(bytes: &[u8]) -> u32
-    ensures { λ r. ⌜ r ≡ (sizeCheck 64 (now (bytes .entry)) then pathCheck (words (now (bytes .entry)))) ⌝ }
+    ensures { λ r. ⌜ r ≡ (sizeCheck pathWords (now (bytes .entry)) then pathCheck (words (now (bytes .entry)))) ⌝ }
 {
-    let n = check_file(bytes, 64, 4, false, true);
+    let n = check_file(bytes, PATH_WORDS, 4, false, true);
     if n != 0 {
         return n;
     }

@@ -1,5 +1,2 @@
-// The readers of what a site holds: parts, wholes and cut lists. Each answers the number of the refusal, 0 where there is none.
-pub mod cuts;
-pub mod kinds;
+// The reader of a part. It answers the number of the refusal, 0 where there is none.
 pub mod part;
-pub mod whole;

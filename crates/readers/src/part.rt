@@ -4,6 +4,7 @@ use files::cursor::Step;
 use files::field::door;
 use files::field::node;
 use files::field::root;
+use files::limits::PART_WORDS;
 use files::part::Seen;
 use files::part::is_edge;
 use files::part::is_node;
@@ -17,6 +18,7 @@ ghost use lib.ListN.{drop};
 ghost use Rattle.files.specs.Word.{words};
 ghost use Rattle.files.specs.Refuse.{_then_, sizeCheck};
 ghost use Rattle.files.specs.Part.{start, next, nodeCheck, edgeCheck, wordCheck, scan, partCheck};
+ghost use Rattle.files.specs.Limits.{partWords};
 
 fn check_node(st: Seen, w: u32) -> u32
     ensures { λ r. ⌜ r ≡ nodeCheck st w ⌝ }
@@ -82,9 +84,9 @@ fn scan_words(bytes: &[u8]) -> u32
 
 // The number of the refusal of a part, 0 where it is one.
 pub fn check_part(bytes: &[u8]) -> u32
-    ensures { λ r. ⌜ r ≡ (sizeCheck 4096 (now (bytes .entry)) then partCheck (words (now (bytes .entry)))) ⌝ }
+    ensures { λ r. ⌜ r ≡ (sizeCheck partWords (now (bytes .entry)) then partCheck (words (now (bytes .entry)))) ⌝ }
 {
-    let n = check_file(bytes, 4096, 1, true, false);
+    let n = check_file(bytes, PART_WORDS, 1, true, false);
     if n != 0 {
         return n;
     }

@@ -4,15 +4,15 @@ use files::cursor::Step;
 use files::field::kind;
 use files::field::labels;
 use files::field::node;
+use files::field::state;
 use files::refuse::choose;
 use files::refuse::first;
 use files::refuse::refuse;
 use files::reply::Seen;
 use files::reply::door_root;
-use files::reply::is_door;
+use files::reply::is_door_word;
 use files::reply::is_reach;
 use files::reply::is_row;
-use files::reply::state;
 use files::word::word_at;
 ghost use mathlib.Core.Path.{_≡_};
 ghost use lib.ListN.{getD, drop};
@@ -57,7 +57,7 @@ fn check_reach(n: u32, st: Seen, w: u32) -> u32
 fn check_word(n: u32, st: Seen, w: u32) -> u32
     ensures { λ r. ⌜ r ≡ wordCheck n st w ⌝ }
 {
-    if is_door(w) {
+    if is_door_word(w) {
         return check_door(st, w);
     }
     if is_row(w) {
@@ -72,7 +72,7 @@ fn check_word(n: u32, st: Seen, w: u32) -> u32
 fn seen_next(st: Seen, w: u32) -> Seen
     ensures { λ r. ⌜ r ≡ nextSeen st w ⌝ }
 {
-    if is_door(w) {
+    if is_door_word(w) {
         return Seen {
             last: w,
             low: node(w) + 1,

@@ -61,7 +61,7 @@ states-step w s h l =
     members-first (hasState s) (hasState (bitAnd s (s - 1))) (trailingZeros w s) (r .1) (λ x. has-clear w s x h l)
     0 w (omega arith) (omega arith) (λ x g k. r .2 x k)
 
--- its length is the count of set digits
+-- the length of a set's list is the count of its set digits
 length-keep : (b : Bool) (q : ℕ) (l : List ℕ) → length (keep b q l) ≡ one b + length l
 length-keep true q l = omega arith
 length-keep false q l = omega arith

@@ -10,11 +10,11 @@ use lib.Dec.{eqb}
 use lib.ListN.{length, getD, replicate}
 use Rattle.sets.specs.States.{hasState}
 use Rattle.sets.specs.Table.{half, putHalf}
-use Rattle.sets.specs.NodeSet.{hasNode, Added}
+use Rattle.sets.specs.NodeSet.{hasNode, Added, nodeSetBytes}
 use Rattle.sets.proofs.Tests.{same-test, eq-iff}
 use Rattle.sets.proofs.Cases.{eq-or-ne}
 use Rattle.sets.proofs.StateSets.{has-empty}
-use Rattle.sets.proofs.Tables.{length-put, byte-put, half-same, half-other, half-zero}
+use Rattle.sets.proofs.Tables.{length-put, byte-put, half-same, half-other, half-zero, zero-at}
 
 -- a node is its cell and its bit
 same-bit : (y x : ℕ) → y / 16 ≡ x / 16 → eqb (y % 16) (x % 16) ≡ eqb y x
@@ -23,7 +23,7 @@ same-bit y x e = same-test
     (λ t. eq-iff (y % 16) (x % 16) .1 (ap (λ (z : ℕ). z % 16) (eq-iff y x .0 t)))
 
 -- u, the cell of x, is put back as v, with the bit of x
-pub node-added : {w w′ : List ℕ} {base x u : ℕ} (v : ℕ) → (base + 8192 ≤ length w) × (x < 65536) → u ≡ half w base (x / 16)
+pub node-added : {w w′ : List ℕ} {base x u : ℕ} (v : ℕ) → (base + nodeSetBytes ≤ length w) × (x < 65536) → u ≡ half w base (x / 16)
     → ((p : ℕ) → hasState v p ≡ (hasState u p || eqb p (x % 16))) → w′ ≡ putHalf w base (x / 16) v → Added base x w w′
 unfolding hasNode
 node-added {w = w} {base = base} {x = x} v (l, h) g e r = rw r (record {
@@ -45,11 +45,6 @@ pub node-none : (w : List ℕ) (base x : ℕ) → ((k : ℕ) → getD w k 0 ≡ 
 unfolding hasNode
 node-none w base x z = rw (half-zero w base (x / 16) (z _) (z _)) (has-empty (x % 16))
 
--- and so is a cleared buffer
+-- a cleared buffer is the empty set too
 pub nodes-none : (n : ℕ) {w : List ℕ} (base x : ℕ) → w ≡ replicate n 0 → hasNode w base x ≡ false
 nodes-none n base x e = rw e (node-none (replicate n 0) base x (zero-at n))
-  where
-    zero-at : (n k : ℕ) → getD {A = ℕ} (replicate n 0) k 0 ≡ 0
-    zero-at zero k = refl
-    zero-at (suc n) zero = refl
-    zero-at (suc n) (suc k) = zero-at n k

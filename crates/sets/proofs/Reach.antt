@@ -37,11 +37,11 @@ reach-is-least xs l = record {
   least = λ Q s n x m. reach-least Q s (λ x y r h k. n x y h k) x (l .sound x m);
 }
 
--- and there is one least set
+-- two least sets are the same set
 pub least-unique : {Seed : ℕ → Type 0} {Step : ℕ → ℕ → Type 0} {P Q : ℕ → Type 0} → Least Seed Step P → Least Seed Step Q → (x : ℕ) → P x ↔ Q x
 least-unique {P} {Q} p q x = (p .least Q (q .holds) (q .closed) x, q .least P (p .holds) (p .closed) x)
 
--- `closure` computes it
+-- `closure` computes the least set
 
 module _ (step : ℕ → List ℕ) (seeds : List ℕ) where
   -- what holds of `done` and `new` between two rounds: `done` is a set; nothing new is in it; all in both is reached; the seeds are in
@@ -125,7 +125,7 @@ module _ (step : ℕ → List ℕ) (seeds : List ℕ) where
         closed = λ x m. elim m [ ];
       }
 
-  -- the same, if that is below 2 ^ 20: if the seeds are, and what a reached number steps to
+  -- `closure` lists what is reached, if that is below 2 ^ 20: if the seeds are, and what a reached number steps to
   pub closure-lists : ((x : ℕ) → Mem x seeds → x < 2 ^ 20) → ((x y : ℕ) → Reach step seeds x → Mem y (step x) → y < 2 ^ 20)
       → Lists (Reach step seeds) (closure step seeds)
   closure-lists s n = closure-lists-within (upto (2 ^ 20)) (le-of-eq (upto-length (2 ^ 20)))

@@ -6,8 +6,9 @@ use mathlib.Core.Bool.{Bool, true, false, not, _&&_, _||_, and-false}
 use Prim.Native.Nat.{ℕ, _+_, _*_, _/_, _%_, _<_}
 use native.Mathlib.Omega.{arith}
 use Rattle.sets.specs.Tally.{tally}
-use Rattle.sets.proofs.Cases.{bool-cases, eq-or-ne, or-elim, and-left, and-right, not-elim, not-known, not-mono, clash}
+use Rattle.sets.proofs.Cases.{eq-or-ne, or-elim, and-left, and-right, not-elim, not-known, not-mono, clash}
 use Rattle.sets.proofs.Tallies.{tally-lt}
+use Rattle.sets.proofs.Tests.{either}
 
 -- what some number of steps from a seed comes to
 pub data Comes (Seed : ℕ → ℕ → Type 0) (Step : ℕ → ℕ → ℕ → ℕ → Type 0) : ℕ → ℕ → Type 0 where
@@ -73,11 +74,12 @@ quiet : (a a′ b b′ x : Bool) → b′ ≡ (b || (x && (a′ && not a))) → 
 quiet a a′ b b′ true e f h = rw (e, f, h) (and-false a′)
 quiet a a′ b b′ false e f h = rw (e, f)
 
-loud : (a a′ b b′ : Bool) → b′ ≡ (b || (a′ && not a)) → b′ ≡ false → a′ ≡ true → (a ≡ true) × (b ≡ false)
-loud true a′ true b′ e f h = absurd (clash e f)
-loud true a′ false b′ e f h = (refl, refl)
-loud false a′ true b′ e f h = absurd (clash e f)
-loud false a′ false b′ e f h = absurd (clash (e ∙ rw h) f)
+-- what is reached and not pending, where what was gained is pending, was so before
+pub done-before : (a a′ b b′ : Bool) → b′ ≡ (b || (a′ && not a)) → b′ ≡ false → a′ ≡ true → (a ≡ true) × (b ≡ false)
+done-before true a′ true b′ e f h = absurd (clash e f)
+done-before true a′ false b′ e f h = (refl, refl)
+done-before false a′ true b′ e f h = absurd (clash e f)
+done-before false a′ false b′ e f h = absurd (clash (e ∙ rw h) f)
 
 -- a turn at place i: its pending states are taken, which leaves p₁; what they step to is entered; and what a place that expands gained is pending
 pub record Turn (n : ℕ) (Step : ℕ → ℕ → ℕ → ℕ → Type 0) (expands : ℕ → Bool) (i : ℕ) (r p p₁ r₂ p₂ : ℕ → ℕ → Bool) : Type 0 where
@@ -116,14 +118,14 @@ module _ (n : ℕ) (Step : ℕ → ℕ → ℕ → ℕ → Type 0) (expands : �
   turn-closed : (j q k y : ℕ) → j < n → r₂ j q ≡ true → p₂ j q ≡ false → Step j q k y → r₂ k y ≡ true
   turn-closed j q k y l m f t =
       let g : p₂ j q ≡ (p₁ j q || (r₂ j q && not (r j q))) = x .fresh j q l ∙ ap (λ b. p₁ j q || (b && (r₂ j q && not (r j q)))) (from j q k y t) in
-      let c = loud (r j q) (r₂ j q) (p₁ j q) (p₂ j q) g f m in
+      let c = done-before (r j q) (r₂ j q) (p₁ j q) (p₂ j q) g f m in
       let k< = inside j q k y l t in
       ⊎-elim
       (λ h.
       let e = taken j q l h (c .1) in
       x .all q k y k< (rw e at h) (rw e at t))
       (λ h. x .kept k y k< (old .closed j q k y l (c .0) h t))
-      (bool-cases (p j q))
+      (either (p j q))
 
   turn-done : (j q : ℕ) → j < n → done r p j q ≡ true → done r₂ p₂ j q ≡ true
   turn-done j q l h =

@@ -127,7 +127,7 @@ trailing-odd : (k n : ℕ) → n % 2 ≡ 1 → trailingZeros (suc k) n ≡ 0
 unfolding trailingZeros
 trailing-odd k n e = rw e
 
--- it is below w, a member, and no lower one is
+-- q is below w, a member, and no lower one is
 abbrev pub IsLowest : ℕ → ℕ → ℕ → Type 0
 IsLowest w s q = (q < w) × (hasState s q ≡ true) × ((p : ℕ) → p < q → hasState s p ≡ false)
 

@@ -1,10 +1,10 @@
 -- The laws of a table of sixteen-bit numbers in bytes: with them a caller takes the table as a function of the index, and never sees a byte.
-use mathlib.Core.Path.{_≡_, ap₂, _∙_}
+use mathlib.Core.Path.{_≡_, refl, ap₂, _∙_}
 use mathlib.Core.Logic.{_⊎_, inl, inr, ⊎-elim}
 use mathlib.Core.List.{List}
-use Prim.Native.Nat.{ℕ, zero, _+_, _*_, _/_, _%_, _^_, _<_}
+use Prim.Native.Nat.{ℕ, zero, suc, _+_, _*_, _/_, _%_, _^_, _<_}
 use native.Mathlib.Omega.{arith}
-use lib.ListN.{length, getD, set, length-set}
+use lib.ListN.{length, getD, set, replicate, length-set}
 use lib.Seq.{getD-set-same, getD-set-other, lt-length-set}
 use Rattle.sets.specs.Table.{half, putHalf}
 use Rattle.sets.proofs.Cases.{ne-cases}
@@ -55,3 +55,9 @@ half-lt w b i h = omega (arith, h (b + 2 * i), h (b + 2 * i + 1))
 pub half-zero : (w : List ℕ) (b i : ℕ) → getD w (b + 2 * i) 0 ≡ 0 → getD w (b + 2 * i + 1) 0 ≡ 0 → half w b i ≡ 0
 unfolding half
 half-zero w b i e f = rw (e, f)
+
+-- a cleared buffer has only zeros
+pub zero-at : (n k : ℕ) → getD {A = ℕ} (replicate n 0) k 0 ≡ 0
+zero-at zero k = refl
+zero-at (suc n) zero = refl
+zero-at (suc n) (suc k) = zero-at n k

@@ -18,7 +18,7 @@ unfolding tally
 tally-le p p′ zero h = omega arith
 tally-le p p′ (suc n) h = omega (arith, one-le (p n) (p′ n) (h n (omega arith)), tally-le p p′ n (λ k l. h k (omega arith)))
 
--- and at one place fails where the other passes
+-- a test that passes less, and at some place fails where the other passes
 pub tally-lt : (p p′ : ℕ → Bool) (n x : ℕ) → ((k : ℕ) → k < n → p k ≡ true → p′ k ≡ true) → x < n → p x ≡ false → p′ x ≡ true → tally p n < tally p′ n
 unfolding tally
 tally-lt p p′ zero x h l f t = absurd (not-suc-le-zero l)

@@ -1,4 +1,4 @@
--- What may follow a set of states.
+-- Inner. What may follow a set of states.
 use mathlib.Core.Path.{_≡_}
 use mathlib.Core.Logic.{_↔_}
 use mathlib.Core.Bool.{true}

@@ -1,4 +1,4 @@
--- The least set that holds the seeds and is closed under a step, as a property and as a computed list.
+-- Believed. The least set that holds the seeds and is closed under a step, as a property and as a computed list.
 -- Assumes nothing.
 use mathlib.Core.List.{List, [], _∷_, map, flatten}
 use Prim.Native.Nat.{ℕ, zero, suc, _^_}

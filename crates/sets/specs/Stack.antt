@@ -1,4 +1,4 @@
--- A stack of the numbers that wait, each on it once. It speaks of a test and a function, and of no bytes.
+-- Inner. A stack of the numbers that wait, each on it once. It speaks of a test and a function, and of no bytes.
 use mathlib.Core.Path.{_≡_}
 use mathlib.Core.Bool.{Bool, true}
 use Prim.Native.Nat.{ℕ, _<_}

@@ -6,10 +6,13 @@ use crate::table::put16;
 ghost use mathlib.Core.Path.{_≡_};
 ghost use Prim.Native.Nat.{_+_, _≤_, _<_};
 ghost use lib.ListN.{length};
-ghost use Rattle.sets.specs.NodeSet.{hasNode, Added};
+ghost use Rattle.sets.specs.NodeSet.{hasNode, Added, nodeSetBytes};
+
+// The numbers of sixteen bits of a set.
+pub const NODE_CELLS: usize = 4096;
 
 pub fn has(work: &[u8], base: usize, x: u32) -> bool
-    requires { ⌜ (base + 8192 ≤ length (now work)) × (x < 65536) ⌝ }
+    requires { ⌜ (base + nodeSetBytes ≤ length (now work)) × (x < 65536) ⌝ }
     ensures { λ r. ⌜ r ≡ hasNode (now (work .entry)) base x ⌝ }
 {
     let cell = (x / 16) as usize;
@@ -17,7 +20,7 @@ pub fn has(work: &[u8], base: usize, x: u32) -> bool
 }
 
 pub fn add(work: &mut [u8], base: usize, x: u32)
-    requires { ⌜ (base + 8192 ≤ length (now work)) × (x < 65536) ⌝ }
+    requires { ⌜ (base + nodeSetBytes ≤ length (now work)) × (x < 65536) ⌝ }
     ensures { λ _. ⌜ Added base x (now (work .entry)) (now (work .exit)) ⌝ }
 {
     let cell = (x / 16) as usize;

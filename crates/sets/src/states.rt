@@ -20,18 +20,6 @@ pub fn with(s: u16, q: u32) -> u16
     s | (1 << q)
 }
 
-pub fn union(a: u16, b: u16) -> u16
-    ensures { λ r. ⌜ ((p : ℕ) → hasState r p ≡ (hasState a p || hasState b p)) ⌝ }
-{
-    a | b
-}
-
-pub fn both(a: u16, b: u16) -> u16
-    ensures { λ r. ⌜ ((p : ℕ) → hasState r p ≡ (hasState a p && hasState b p)) ⌝ }
-{
-    a & b
-}
-
 pub fn minus(a: u16, b: u16) -> u16
     ensures { λ r. ⌜ ((p : ℕ) → hasState r p ≡ (hasState a p && not (hasState b p))) ⌝ }
 {

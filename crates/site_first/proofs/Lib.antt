@@ -1,6 +1,1 @@
-pub mod Written
-pub mod Reported
-pub mod FirstReplies
-pub mod Traffic
-pub mod Reports
 pub mod FirstCalls

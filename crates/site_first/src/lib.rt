@@ -1,3 +1,2 @@
-// A site's first reply.
-pub mod first_call;
-pub mod reporting;
+// A site's first reply, as a call.
+pub mod call;

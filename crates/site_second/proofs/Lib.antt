@@ -1,2 +1,2 @@
 pub mod SecondReplies
-pub mod Calling
+pub mod Replying

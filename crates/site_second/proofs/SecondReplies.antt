@@ -1,7 +1,6 @@
 -- A site's second reply, of an accepted part: it is an accepted file, no longer than the part, and its answers are nodes of the part,
 -- ascending. Assumes nothing.
 use mathlib.Core.Path.{_≡_, refl, ap}
-use mathlib.Core.Logic.{_↔_}
 use mathlib.Core.List.{List, [], _∷_, map, Memᴰ·of-map}
 use Prim.Native.Nat.{ℕ, _*_, _^_, _≤_, _<_}
 use native.Mathlib.Omega.{arith}
@@ -9,7 +8,7 @@ use lib.Dec.{T}
 use lib.ListN.{length, getD, drop, length-map, length-drop}
 use Rattle.sets.specs.Sets.{Mem, Ascending, Lists, member, _⊆_}
 use Rattle.sets.specs.Reach.{Reach, seed}
-use Rattle.sets.proofs.Sets.{filter-iff, member-iff, lists-iff, made-unique}
+use Rattle.sets.proofs.Sets.{member-iff, lists-iff, made-unique}
 use Rattle.sets.proofs.Filter.{all-iff}
 use Rattle.files.specs.Field.{siteOf, labelsOf, pair, pairOf, pairNode, pairState, file, answerWord}
 use Rattle.files.specs.Word.{bytesOf}
@@ -25,61 +24,57 @@ use Rattle.files.proofs.Blocks.{node-small, running-iff}
 use Rattle.files.proofs.Parts.{part-some, nodes-ascending}
 use Rattle.files.proofs.Ordered.{answers-accepted, answers-read}
 use Rattle.files.proofs.Files.{Made, file-made}
+use Rattle.files.specs.Limits.{partWords, pathWords, replyWords, workBytes}
 use Rattle.expressions.specs.Expr.{Expr, count}
 use Rattle.expressions.specs.Positions.{accepts}
 use Rattle.expressions.specs.Labels.{exprOf}
 use Rattle.expressions.proofs.Paths.{path-small, path-some}
 use Rattle.walks.specs.Product.{Walk, stepIn, answers}
 use Rattle.walks.proofs.Product.{accepts-small, walk-end, walk-reach, reach-walk, answers-lists, answers-nodes, answers-ascending, answers-length}
-use Rattle.site_second.specs.Second.{IsSecondReply, called, secondReply, againstCheck, secondReplyCall}
-
--- the called pairs of a part are those of the call list whose nodes the part has
-pub called-iff : (part calls : List ℕ) (c : ℕ) → Mem c (called part calls) ↔ (Mem c (map pairOf calls) × Mem (pairNode c) (nodes part))
-called-iff part calls c =
-    let i = filter-iff (λ c. member (pairNode c) (nodes part)) c (map pairOf calls) in
-    let k = member-iff (pairNode c) (nodes part) in
-    (λ m. (i .0 m .0, k .0 (i .0 m .1)), λ m. i .1 (m .0, k .1 (m .1)))
+pub use Rattle.site_calls.proofs.Calling.{called-iff}
+use Rattle.site_second.specs.Second.{IsSecondReply, calledIn, secondReply, againstCheck, secondReplyCall}
 
 -- the nodes that the reply lists
 abbrev pub found : List ℕ → List ℕ → List ℕ → List ℕ
-found part path calls = answers (drop 1 part) (exprOf (drop 1 path)) (called (drop 1 part) (drop 1 calls))
+found part path calls = answers (drop 1 part) (exprOf (drop 1 path)) (calledIn (drop 1 part) (drop 1 calls))
+
+pub second-is : (part path calls : List ℕ)
+    → secondReply part path calls ≡ file 13 (siteOf (getD part 0 0)) (labelsOf (getD path 0 0)) (map answerWord (found part path calls))
+unfolding secondReply
+second-is part path calls = refl
 
 module _ (part path calls : List ℕ) (p : partCheck part ≡ 0) where
   abbrev xs : List ℕ
   xs = found part path calls
 
   pub found-nodes : found part path calls ⊆ nodes (drop 1 part)
-  found-nodes = answers-nodes (drop 1 part) (exprOf (drop 1 path)) (called (drop 1 part) (drop 1 calls))
+  found-nodes = answers-nodes (drop 1 part) (exprOf (drop 1 path)) (calledIn (drop 1 part) (drop 1 calls))
 
   pub found-ascending : Ascending (found part path calls)
-  found-ascending = answers-ascending (drop 1 part) (exprOf (drop 1 path)) (called (drop 1 part) (drop 1 calls)) (nodes-ascending part p)
+  found-ascending = answers-ascending (drop 1 part) (exprOf (drop 1 path)) (calledIn (drop 1 part) (drop 1 calls)) (nodes-ascending part p)
 
   found-below : (x : ℕ) → Mem x xs → x < 2 ^ 16
   found-below x m = node-small (drop 1 part) x (found-nodes x m)
 
-  second-is : secondReply part path calls ≡ file 13 (siteOf (getD part 0 0)) (labelsOf (getD path 0 0)) (map answerWord xs)
-  unfolding secondReply
-  second-is = refl
-
-  -- it lists them
+  -- the reply's answers are the nodes found
   pub second-answers : answersOf (drop 1 (secondReply part path calls)) ≡ found part path calls
-  second-answers = rw second-is (answers-read xs found-below)
+  second-answers = rw (second-is part path calls) (answers-read xs found-below)
 
-  -- it is never longer than the part
+  -- a reply is never longer than the part
   pub second-length : length (secondReply part path calls) ≤ length part
-  second-length = rw second-is (omega (
+  second-length = rw (second-is part path calls) (omega (
     arith,
     part-some part p,
     length-map xs answerWord,
     length-drop 1 part,
-    answers-length (drop 1 part) (exprOf (drop 1 path)) (called (drop 1 part) (drop 1 calls)),
+    answers-length (drop 1 part) (exprOf (drop 1 path)) (calledIn (drop 1 part) (drop 1 calls)),
   ))
 
-  -- so it is an accepted file
-  pub second-made : length part ≤ 4096 → Made 13 (siteOf (getD part 0 0)) (labelsOf (getD path 0 0)) answersCheck (secondReply part path calls)
+  -- a reply is an accepted file
+  pub second-made : length part ≤ partWords → Made 13 (siteOf (getD part 0 0)) (labelsOf (getD path 0 0)) answersCheck (secondReply part path calls)
   second-made h =
-      let l = rw second-is at second-length in
-      rw second-is (file-made 13 (siteOf (getD part 0 0)) (labelsOf (getD path 0 0)) answersCheck (map answerWord xs) (omega arith)
+      let l = rw (second-is part path calls) at second-length in
+      rw (second-is part path calls) (file-made 13 (siteOf (getD part 0 0)) (labelsOf (getD path 0 0)) answersCheck (map answerWord xs) (omega arith)
       (site-below (getD part 0 0)) (labels-below (getD path 0 0)) (omega arith)
       (λ w m. let r = Memᴰ·of-map answerWord xs m in rw (← r .2) (answer (r .0) (found-below (r .0) (r .1)) .word))
       (λ h k. answers-accepted h xs found-ascending found-below))
@@ -92,14 +87,14 @@ module _ (part path calls : List ℕ) (p : partCheck part ≡ 0) where
       λ r. (i .0 (r .0) .0, to x (r .1) (i .0 (r .0) .1)),
       λ (n, h). let (c, q, m, k, w, t) = h in (i .1 (n, walk-end w), from x h),
     )) all,
-    second-is,
+    second-is part path calls,
   )
     where
       e : Expr
       e = exprOf (drop 1 path)
 
       seeds : List ℕ
-      seeds = called (drop 1 part) (drop 1 calls)
+      seeds = calledIn (drop 1 part) (drop 1 calls)
 
       small : count e ≤ 15
       small = path-small path a
@@ -123,7 +118,7 @@ module _ (part path calls : List ℕ) (p : partCheck part ≡ 0) where
       from x (c, q, m, n, w, t) =
           (q, walk-reach (drop 1 part) e small seeds (omega arith) w (rw (pair-eta c) (seed (called-iff (drop 1 part) (drop 1 calls) c .1 (m, n)))), t)
 
--- and there is no other
+-- there is one second reply
 pub second-unique : (part path calls : List ℕ) {f g : List ℕ} → IsSecondReply part path calls f → IsSecondReply part path calls g → f ≡ g
 second-unique part path calls = made-unique (λ xs. file 13 (siteOf (getD part 0 0)) (labelsOf (getD path 0 0)) (map answerWord xs))
 
@@ -135,7 +130,7 @@ pub against-checked : (part path calls : List ℕ) → labelsOf (getD calls 0 0)
     → againstCheck part path calls ≡ 0
 against-checked part path calls l d = simp checks (
   l,
-  all-iff (λ c. member (pairNode c) (doors (drop 1 part))) (called (drop 1 part) (drop 1 calls)) .1 (λ c m.
+  all-iff (λ c. member (pairNode c) (doors (drop 1 part))) (calledIn (drop 1 part) (drop 1 calls)) .1 (λ c m.
       let i = called-iff (drop 1 part) (drop 1 calls) c .0 m in
       member-iff (pairNode c) (doors (drop 1 part)) .1 (d c (i .0) (i .1))),
 )
@@ -145,13 +140,13 @@ calls-some [] e = absurd (omega arith)
 calls-some (h ∷ ws) e = omega arith
 
 -- written as bytes, an accepted part, path and call list are accepted by the call
-pub second-outcome : (out work : ℕ) (part path calls : List ℕ) → 4 * 4096 ≤ out → 32768 ≤ work
-    → ((w : ℕ) → Mem w part → w < 2 ^ 32) → length part ≤ 4096 → partCheck part ≡ 0
-    → ((w : ℕ) → Mem w path → w < 2 ^ 32) → length path ≤ 64 → pathCheck path ≡ 0
-    → ((w : ℕ) → Mem w calls → w < 2 ^ 32) → length calls ≤ 4096 → callsCheck calls ≡ 0 → againstCheck part path calls ≡ 0
-    → secondReplyCall out work (bytesOf part) (bytesOf path) (bytesOf calls) ≡ outcome 0 4096 (secondReply part path calls)
+pub second-outcome : (out work : ℕ) (part path calls : List ℕ) → 4 * replyWords ≤ out → workBytes ≤ work
+    → ((w : ℕ) → Mem w part → w < 2 ^ 32) → length part ≤ partWords → partCheck part ≡ 0
+    → ((w : ℕ) → Mem w path → w < 2 ^ 32) → length path ≤ pathWords → pathCheck path ≡ 0
+    → ((w : ℕ) → Mem w calls → w < 2 ^ 32) → length calls ≤ replyWords → callsCheck calls ≡ 0 → againstCheck part path calls ≡ 0
+    → secondReplyCall out work (bytesOf part) (bytesOf path) (bytesOf calls) ≡ outcome 0 replyWords (secondReply part path calls)
 unfolding secondReplyCall
 second-outcome out work part path calls h k v l p w m a u s c g =
-    rw (words-bytes part v, words-bytes path w, words-bytes calls u) (ap (λ c. outcome c 4096 (secondReply part path calls))
-    (then-zero (room-checked 4096 out work h k) (then-zero (size-checked 4096 part (part-some part p) l) (then-zero p
-    (then-zero (size-checked 64 path (path-some path a) m) (then-zero a (then-zero (size-checked 4096 calls (calls-some calls c) s) (then-zero c g))))))))
+    rw (words-bytes part v, words-bytes path w, words-bytes calls u) (ap (λ c. outcome c replyWords (secondReply part path calls))
+    (then-zero (room-checked replyWords out work h k) (then-zero (size-checked partWords part (part-some part p) l) (then-zero p
+    (then-zero (size-checked pathWords path (path-some path a) m) (then-zero a (then-zero (size-checked replyWords calls (calls-some calls c) s) (then-zero c g))))))))

@@ -1,2 +1,3 @@
 // A site's second reply.
-pub mod answering;
+pub mod call;
+mod search;

@@ -3,3 +3,4 @@ pub mod Sorting
 pub mod Owning
 pub mod Resolving
 pub mod Laying
+pub mod Storing

@@ -6,6 +6,7 @@ use mathlib.Core.List.{List, [], _∷_, map, List·Memᴰ·cases-cons}
 use Prim.Native.Nat.{ℕ, zero, suc, _+_, _-_, _≤_, _<_}
 use native.Mathlib.Omega.{arith}
 use borrow.Author.Tests.{eq-eqb, eqb-true, ne-eqb}
+use lib.Dec.{eqb}
 use lib.ListN.{length, getD, drop, List·getD-eq-default}
 use lib.Seq.{getD-drop}
 use Rattle.sets.specs.Sets.{Mem, here, there, Ascending, filter}
@@ -18,17 +19,20 @@ use Rattle.slots.specs.Slots.{nodeAt, edgeAt, stoppedAt, idleAt, number,
 
 -- ---- any words
 
--- an edge word is one of the words, and no node word
+-- a word of a kind other than 0 is one of the words: past the end the word 0 is read
+kind-below : (k : ℕ) (ws : List ℕ) (x : ℕ) → 0 < k → eqb (kindOf (getD ws x 0)) k ≡ true → x < length ws
+kind-below k ws x s e =
+    ⊎-elim (λ l. l) (λ l. absurd (let h = eqb-true (kindOf (getD ws x 0)) k e in omega (arith, List·getD-eq-default ws 0 l))) (lt-or-le x (length ws))
+
 pub edge-below : (ws : List ℕ) (x : ℕ) → edgeAt ws x ≡ true → x < length ws
 unfolding edgeAt
-edge-below ws x e =
-    ⊎-elim (λ l. l) (λ l. absurd (let h = eqb-true (kindOf (getD ws x 0)) 3 e in omega (arith, List·getD-eq-default ws 0 l))) (lt-or-le x (length ws))
+edge-below ws x e = kind-below 3 ws x (omega arith) e
 
 pub node-below : (ws : List ℕ) (x : ℕ) → nodeAt ws x ≡ true → x < length ws
 unfolding nodeAt
-node-below ws x e =
-    ⊎-elim (λ l. l) (λ l. absurd (let h = eqb-true (kindOf (getD ws x 0)) 2 e in omega (arith, List·getD-eq-default ws 0 l))) (lt-or-le x (length ws))
+node-below ws x e = kind-below 2 ws x (omega arith) e
 
+-- an edge word is no node word
 pub edge-no-node : (ws : List ℕ) (x : ℕ) → edgeAt ws x ≡ true → nodeAt ws x ≡ false
 unfolding edgeAt nodeAt
 edge-no-node ws x e = ne-eqb (kindOf (getD ws x 0)) 2 (λ n. omega (arith, eqb-true (kindOf (getD ws x 0)) 3 e))
@@ -57,7 +61,7 @@ pub node-in : (ws : List ℕ) (i : ℕ) → nodeAt ws i ≡ true → Mem (number
 unfolding nodeAt number
 node-in = at-number isNode refl
 
--- and each node is the number of a node word
+-- each node is the number of a node word
 pub in-node : (ws : List ℕ) (x : ℕ) → Mem x (nodes ws) → (i : ℕ) × (nodeAt ws i ≡ true) × (number ws i ≡ x)
 unfolding nodeAt number
 in-node = number-at isNode refl
@@ -161,7 +165,7 @@ module _ (ws : List ℕ) (c : partCheck ws ≡ 0) where
       has : ℕ → Bool
       has w = isNode w && mark w
 
-  -- so a node is stopped just if its word is marked so
+  -- a node is stopped just if its word is marked so
   pub stopped-iff : (i : ℕ) → nodeAt ws i ≡ true → Mem (number ws i) (stopped (drop 1 ws)) ↔ (stoppedAt ws i ≡ true)
   unfolding nodeAt stoppedAt
   stopped-iff i n = (

@@ -1,4 +1,4 @@
--- A part by the positions of its words, the header's being 0, and the slots of a search: a node of the part has its slot at its node word,
+-- Inner. A part by the positions of its words, the header's being 0, and the slots of a search: a node of the part has its slot at its node word,
 -- a target outside the part at the first edge word that leads to it.
 use mathlib.Core.Path.{_≡_}
 use mathlib.Core.Bool.{Bool, true, false, cond, not, _&&_}
@@ -11,6 +11,25 @@ use Rattle.sets.specs.Table.{half}
 use Rattle.sets.specs.Tally.{tally}
 use Rattle.files.specs.Field.{nodeOf}
 use Rattle.files.specs.Part.{isNode, isEdge, isStopped, partCheck}
+use Rattle.files.specs.Limits.{partWords, workBytes}
+
+-- The bytes of the working buffer where the tables begin, each with a number for each word of a part. The second holds pending states at
+-- node words and masks at edge words.
+abbrev pub reachedBase : ℕ
+reachedBase = 0
+
+abbrev pub pendingBase : ℕ
+pendingBase = 8192
+
+abbrev pub slotsBase : ℕ
+slotsBase = 16384
+
+abbrev pub placesBase : ℕ
+placesBase = 24576
+
+-- the node words' positions, before any state is reached
+abbrev pub ownersBase : ℕ
+ownersBase = 0
 
 unfoldable pub nodeAt : List ℕ → ℕ → Bool
 nodeAt ws i = isNode (getD ws i 0)
@@ -44,23 +63,23 @@ pub record Behind (ws : List ℕ) (i x : ℕ) : Type 0 where
 
 -- the tables of a search in the working buffer w, by position: at a slot the states that it was reached in
 abbrev pub reachedOf : List ℕ → ℕ → ℕ
-reachedOf w j = half w 0 j
+reachedOf w j = half w reachedBase j
 
 -- at a node word those of them that are still to be expanded
 abbrev pub pendingOf : List ℕ → ℕ → ℕ
-pendingOf w j = half w 8192 j
+pendingOf w j = half w pendingBase j
 
 -- at an edge word the states that may be entered by its label
 abbrev pub maskOf : List ℕ → ℕ → ℕ
-maskOf w x = half w 8192 x
+maskOf w x = half w pendingBase x
 
 -- at an edge word the slot of its target
 abbrev pub slotOf : List ℕ → ℕ → ℕ
-slotOf w x = half w 16384 x
+slotOf w x = half w slotsBase x
 
--- and the slots of the t outside targets, ascending by target, behind which the nodes stand that wait
+-- the slots of the t outside targets, ascending by target; behind them the nodes stand that wait
 abbrev pub placeOf : List ℕ → ℕ → ℕ
-placeOf w k = half w 24576 k
+placeOf w k = half w placesBase k
 
 abbrev pub isReached : List ℕ → ℕ → ℕ → Bool
 isReached w j q = hasState (reachedOf w j) q
@@ -68,11 +87,17 @@ isReached w j q = hasState (reachedOf w j) q
 abbrev pub isPending : List ℕ → List ℕ → ℕ → ℕ → Bool
 isPending ws w j q = nodeAt ws j && hasState (pendingOf w j) q
 
+-- an accepted part, and a working buffer that has room for its tables
+pub record Searchable (ws w : List ℕ) : Type 0 where
+  pub accepted : partCheck ws ≡ 0
+  pub few : length ws ≤ partWords
+  pub long : workBytes ≤ length w
+
 -- the tables have room for the part's words, and the stack for its nodes
 pub record Roomy (ws : List ℕ) (t : ℕ) (w : List ℕ) : Type 0 where
-  pub few : length ws ≤ 4096
-  pub long : 32768 ≤ length w
-  pub places : t + tally (nodeAt ws) (length ws) ≤ 4096
+  pub few : length ws ≤ partWords
+  pub long : workBytes ≤ length w
+  pub places : t + tally (nodeAt ws) (length ws) ≤ partWords
 
 -- j is the slot of a target outside the part
 pub record Outer (ws w : List ℕ) (j : ℕ) : Type 0 where
@@ -96,8 +121,8 @@ pub record Laid (ws : List ℕ) (t : ℕ) (w : List ℕ) : Type 0 where
 -- what a search leaves as it is
 pub record Kept (ws : List ℕ) (t : ℕ) (w w′ : List ℕ) : Type 0 where
   pub long : length w′ ≡ length w
-  pub slots : (x : ℕ) → x < 4096 → slotOf w′ x ≡ slotOf w x
-  pub masks : (x : ℕ) → x < 4096 → nodeAt ws x ≡ false → maskOf w′ x ≡ maskOf w x
+  pub slots : (x : ℕ) → x < partWords → slotOf w′ x ≡ slotOf w x
+  pub masks : (x : ℕ) → x < partWords → nodeAt ws x ≡ false → maskOf w′ x ≡ maskOf w x
   pub places : (k : ℕ) → k < t → placeOf w′ k ≡ placeOf w k
 
 -- the nodes that wait, and where they stand

@@ -1,7 +1,1 @@
 pub mod Table
-pub mod Vectors
-pub mod Asked
-pub mod TwoSites
-pub mod Wide
-pub mod Over
-pub mod StoppedNodes

@@ -3,7 +3,8 @@ use mathlib.Core.Path.{refl}
 use mathlib.Core.List.{flatten}
 use Rattle.sets.specs.Reach.{closure}
 use Rattle.walks.specs.Product.{stepIn, reached, answers}
-use Rattle.site_first.specs.First.{reported, doorWords, firstReply, firstReplyCall}
+use Rattle.first_replies.specs.FirstReply.{reported, doorWords, firstReply}
+use Rattle.site_first.specs.First.{firstReplyCall}
 use Rattle.site_second.specs.Second.{secondReply, secondReplyCall}
 use Rattle.hub_calls.specs.CallList.{called, callList, callListCall}
 use Rattle.hub_join.specs.Join.{joined, joinCall}

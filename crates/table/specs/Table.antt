@@ -1,4 +1,4 @@
--- Document 01's end-to-end files and rows 5 to 9 of its refusals, as one table. proofs/Table.antt proves it.
+-- Believed. Document 01's end-to-end files and rows 5 to 9 of its refusals, as one table. proofs/Table.antt proves it.
 use Prim.Native.Nat.{ℕ}
 use mathlib.Core.Path.{_≡_}
 use mathlib.Core.List.{List, [], _∷_, _++_}

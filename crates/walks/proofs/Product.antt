@@ -74,7 +74,7 @@ exits-iff part x w = elim (either (member x (stopped part))) [
   | inr b ↦ rw b (λ m. (m, λ k. rw b at (member-iff x (stopped part) .1 k)), λ m. m .0)
 ]
 
--- so they leave running nodes
+-- exits leave running nodes
 pub exits-running : (part : List ℕ) (x w : ℕ) → Mem w (exits part x) → Mem x (running part)
 exits-running part x w m = let (k, r) = exits-iff part x w .0 m in running-iff part x .1 (edge-of part x w k .2, r)
 
@@ -110,7 +110,7 @@ module _ (part : List ℕ) (e : Expr) (seeds : List ℕ) where
   unfolding answers
   answers-ascending a = filter-ascending lands (running part) (running-ascending part a)
 
-  -- and no more than its words
+  -- answers are no more than the part's words
   pub answers-length : length (answers part e seeds) ≤ length part
   unfolding answers
   answers-length = le-trans (filter-length lands (running part))

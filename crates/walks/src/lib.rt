@@ -1,4 +1,1 @@
-// The search of a part, together with the automaton of a path.
-pub mod found;
-pub mod prepare;
-pub mod search;
+// Walks inside a part with the position automaton beside them: definitions and what follows from them. Nothing runs here.

@@ -120,7 +120,7 @@ pub fn read_call_list(bytes: &[u8]) -> Result<(usize, Vec<Pair>), Refusal> {
             return refuse(10, "call state");
         }
         let pair = (node, state as usize);
-        if calls.last().is_some_and(|last| *last >= pair) {
+        if calls.last().map_or(false, |last| *last >= pair) {
             return refuse(6, "calls");
         }
         calls.push(pair);

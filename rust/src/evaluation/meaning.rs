@@ -78,7 +78,7 @@ impl<'a> Flow<'a> {
     /// The rest that is `next` and then `rest`; the same two give the same number.
     fn rest(&mut self, next: &'a Expression, rest: usize) -> usize {
         let same = |r: &(Option<&Expression>, usize)| {
-            r.1 == rest && r.0.is_some_and(|expression| std::ptr::eq(expression, next))
+            r.1 == rest && r.0.map_or(false, |expression| std::ptr::eq(expression, next))
         };
         self.rests.iter().position(same).unwrap_or_else(|| {
             self.rests.push((Some(next), rest));

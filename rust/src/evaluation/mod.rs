@@ -87,7 +87,7 @@ pub fn second_reply(part: &[u8], path: &[u8], calls: &[u8], room: Room) -> Outco
     if n != path.n() {
         return input("call list", refuse(12, "n not the path's"));
     }
-    let no_door = |call: &Pair| part.node(call.0).is_some_and(|node| !node.door);
+    let no_door = |call: &Pair| part.node(call.0).map_or(false, |node| !node.door);
     if calls.iter().any(no_door) {
         return input("call list", refuse(14, "called node is no door"));
     }

@@ -53,7 +53,7 @@ fn read_node(word: u32, nodes: &[Node]) -> Result<Node, Refusal> {
     if bits(word, 27, 19) != 0 {
         return refuse(5, "node zero bit");
     }
-    if nodes.last().is_some_and(|last| last.number >= number) {
+    if nodes.last().map_or(false, |last| last.number >= number) {
         return refuse(6, "nodes");
     }
     if root && !door {
@@ -67,10 +67,8 @@ fn read_node(word: u32, nodes: &[Node]) -> Result<Node, Refusal> {
 
 fn add_edge(word: u32, nodes: &mut [Node]) -> Result<(), Refusal> {
     let edge = (bits(word, 27, 16), bits(word, 15, 0));
-    let Some(node) = nodes.last_mut() else {
-        return refuse(5, "edge before any node");
-    };
-    if node.edges.last().is_some_and(|last| *last >= edge) {
+    let node = nodes.last_mut().map_or_else(|| refuse(5, "edge before any node"), Ok)?;
+    if node.edges.last().map_or(false, |last| *last >= edge) {
         return refuse(6, "edges");
     }
     node.edges.push(edge);

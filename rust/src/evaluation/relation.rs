@@ -9,7 +9,7 @@ pub struct Relation {
 
 impl Relation {
     pub fn none(size: usize) -> Relation {
-        let cells = size.div_ceil(64);
+        let cells = (size + 63) / 64;
         Relation { size, cells, bits: vec![0; size * cells] }
     }
 

@@ -15,7 +15,7 @@ pub fn walks(part: &Part, path: &Path, states: &States, from: &[Pair]) -> BTreeS
     let mut waiting = from.to_vec();
     while let Some((number, q)) = waiting.pop() {
         let node = part.node(number);
-        if node.is_some_and(|node| node.stopped) || !reached.insert((number, q)) {
+        if node.map_or(false, |node| node.stopped) || !reached.insert((number, q)) {
             continue;
         }
         for (label, target) in node.iter().flat_map(|node| &node.edges) {
@@ -84,7 +84,7 @@ fn read_door(word: u32, doors: &[Door]) -> Result<Door, Refusal> {
     if bits(word, 27, 17) != 0 {
         return refuse(5, "door zero bit");
     }
-    if doors.last().is_some_and(|last| last.node >= node) {
+    if doors.last().map_or(false, |last| last.node >= node) {
         return refuse(6, "doors");
     }
     if root && doors.iter().any(|door| door.root) {
@@ -95,9 +95,7 @@ fn read_door(word: u32, doors: &[Door]) -> Result<Door, Refusal> {
 
 fn add_row(word: u32, n: u32, doors: &mut [Door]) -> Result<(), Refusal> {
     let state = bits(word, 3, 0);
-    let Some(door) = doors.last_mut() else {
-        return refuse(5, "row before any door");
-    };
+    let door = doors.last_mut().map_or_else(|| refuse(5, "row before any door"), Ok)?;
     if bits(word, 27, 4) != 0 {
         return refuse(5, "row zero bit");
     }
@@ -105,7 +103,7 @@ fn add_row(word: u32, n: u32, doors: &mut [Door]) -> Result<(), Refusal> {
         return refuse(10, "row state");
     }
     let state = state as usize;
-    if door.rows.last().is_some_and(|last| last.state >= state) {
+    if door.rows.last().map_or(false, |last| last.state >= state) {
         return refuse(6, "rows");
     }
     door.rows.push(Row { state, reach: vec![] });
@@ -114,9 +112,10 @@ fn add_row(word: u32, n: u32, doors: &mut [Door]) -> Result<(), Refusal> {
 
 fn add_reach(word: u32, n: u32, doors: &mut [Door]) -> Result<(), Refusal> {
     let (node, state) = (bits(word, 19, 4), bits(word, 3, 0));
-    let Some(row) = doors.last_mut().and_then(|door| door.rows.last_mut()) else {
-        return refuse(5, "reach word before a row");
-    };
+    let row = doors
+        .last_mut()
+        .and_then(|door| door.rows.last_mut())
+        .map_or_else(|| refuse(5, "reach word before a row"), Ok)?;
     if bits(word, 27, 20) != 0 {
         return refuse(5, "reach zero bit");
     }
@@ -124,7 +123,7 @@ fn add_reach(word: u32, n: u32, doors: &mut [Door]) -> Result<(), Refusal> {
         return refuse(10, "reach state");
     }
     let pair = (node, state as usize);
-    if row.reach.last().is_some_and(|last| *last >= pair) {
+    if row.reach.last().map_or(false, |last| *last >= pair) {
         return refuse(6, "reach words");
     }
     row.reach.push(pair);
@@ -133,7 +132,7 @@ fn add_reach(word: u32, n: u32, doors: &mut [Door]) -> Result<(), Refusal> {
 
 fn bare_row(doors: &[Door]) -> bool {
     let last = doors.last().and_then(|door| door.rows.last());
-    last.is_some_and(|row| row.reach.is_empty())
+    last.map_or(false, |row| row.reach.is_empty())
 }
 
 pub fn read_first_reply(header: Header, words: &[u32]) -> Result<FirstReply, Refusal> {
@@ -168,7 +167,7 @@ pub fn read_second_reply(header: Header, words: &[u32]) -> Result<SecondReply, R
             return refuse(5, "answer zero bit");
         }
         let node = bits(*word, 15, 0);
-        if nodes.last().is_some_and(|last| *last >= node) {
+        if nodes.last().map_or(false, |last| *last >= node) {
             return refuse(6, "answers");
         }
         nodes.push(node);

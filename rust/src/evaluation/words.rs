@@ -59,7 +59,7 @@ pub fn words_of(bytes: &[u8], limit: usize) -> Result<Vec<u32>, Refusal> {
     if bytes.is_empty() {
         return refuse(2, "no words");
     }
-    if !bytes.len().is_multiple_of(4) {
+    if bytes.len() % 4 != 0 {
         return refuse(2, "not in fours");
     }
     if bytes.len() / 4 > limit {

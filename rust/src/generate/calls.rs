@@ -140,8 +140,6 @@ fn join(random: &mut Random) -> Call {
     Call::Join { bundle }
 }
 
-pub const NAMES: [&str; 6] = ["old search", "cut", "first reply", "call list", "second reply", "join"];
-
 /// A random call of this name.
 pub fn call(random: &mut Random, name: &str) -> Call {
     match name {

@@ -1,9 +1,9 @@
 -- `bundles::overall::clashes` meets its contract.
 -- Assumes nothing.
 use borrow.Author.Needs.{needs}
-use Rattle.files.specs.Bundle.{clashing}
 use Rattle.bundles.proofs.overall.clashes.Statement.{statement}
 use Rattle.bundles.proofs.overall.clashes.Tie as tie
+use Rattle.bundles.specs.Stretch.{clashing}
 
 returns : tie.Need-returns
 unfolding clashing

@@ -19,7 +19,7 @@ loop-holds c = (record { is = λ ws. refl }, omega arith)
 
 states-at-requires : tie.Need-states-at-requires Inv-loop μ-loop
 states-at-requires c κs =
-    omega (arith, c .place-at .ensures, c .before .before .before .before .pre .1 (c .before .before .loop .k) (omega arith))
+    omega (arith, c .place-at .ensures, c .before .before .before .before .pre .below (c .before .before .loop .k) (omega arith))
 
 cast-n : tie.Need-cast-n Inv-loop μ-loop
 cast-n c = omega (arith, c .size .ensures, states-few (c .before .states-at .result))

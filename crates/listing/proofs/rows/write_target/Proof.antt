@@ -1,6 +1,7 @@
 -- `listing::rows::write_target` meets its contract. Assumes nothing.
 use borrow.Author.Needs.{needs}
-use Rattle.listing.proofs.Rowing.{number-small, target-is}
+use Rattle.listing.proofs.Answering.{number-small}
+use Rattle.listing.proofs.Rowing.{target-is}
 use Rattle.listing.proofs.rows.write_target.Statement.{statement}
 use Rattle.listing.proofs.rows.write_target.Tie as tie
 

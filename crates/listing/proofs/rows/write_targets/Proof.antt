@@ -23,7 +23,7 @@ loop-holds c = (adding-none _ _ _, omega arith)
 
 write-target-requires : tie.Need-write-target-requires Inv-loop μ-loop
 write-target-requires c κs =
-    omega (arith, c .before .before .before .before .before .before .pre .1 (c .before .before .loop .k) (omega arith), c .before .before .loop .inv .0 .same)
+    omega (arith, c .before .before .before .before .before .before .pre .0 .below (c .before .before .loop .k) (omega arith), c .before .before .loop .inv .0 .same)
 
 loop-again : tie.Need-loop-again Inv-loop μ-loop
 loop-again c = (search (targets-more, needs), omega arith)

@@ -5,7 +5,7 @@ use borrow.Author.Needs.{needs}
 use lib.ListN.{length}
 use Rattle.files.specs.Word.{words}
 use Rattle.files.proofs.Reading.{fewer}
-use Rattle.paths.proofs.Words.{Reading, reading-first, reading-right, reading-ready, reading-more, reading-last}
+use Rattle.paths.proofs.Words.{Reading, reading-first, reading-right, reading-applicable, reading-more, reading-last}
 use Rattle.paths.proofs.automaton.position_automaton.Statement.{statement}
 use Rattle.paths.proofs.automaton.position_automaton.Tie as tie
 
@@ -25,7 +25,7 @@ position-automaton-spec =
     (λ c. search (reading-first, needs))
     (λ c κs. search needs)
     (λ c. search needs)
-    (λ c κs. search (reading-right, reading-ready, needs))
+    (λ c κs. search (reading-right, reading-applicable, needs))
     (λ c. search (fewer, needs))
     (λ c. search (reading-more, needs))
     (λ c. search needs)

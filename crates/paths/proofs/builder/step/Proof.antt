@@ -1,7 +1,7 @@
 -- `builder::step` meets its contract. Assumes nothing.
 use borrow.Author.Needs.{needs}
 use Rattle.files.proofs.Exprs.{wrong-told}
-use Rattle.paths.proofs.Building.{ready-as, ready-label, does-as, word-label, word-operator}
+use Rattle.paths.proofs.Building.{applicable-as, applicable-label, does-as, word-label, word-operator}
 use Rattle.paths.proofs.builder.step.Statement.{statement}
 use Rattle.paths.proofs.builder.step.Tie as tie
 
@@ -13,11 +13,11 @@ step-spec =
     (λ c. search needs)
     (λ c κs.
     let b = c .before .before .before in
-    ready-label _ (ready-as (word-label (b .before .args .w) (b .read-expr .ensures) (c .before .l .given .1) .0) (b .before .pre .1)))
+    applicable-label _ (applicable-as (word-label (b .before .args .w) (b .read-expr .ensures) (c .before .l .given .1) .0) (b .before .pre .1)))
     (λ c. search needs)
     (λ c κs.
     let b = c .before .before .before in
-    ready-as (word-operator (b .before .args .w) (b .read-expr .ensures) (c .before .k .given .1)) (b .before .pre .1))
+    applicable-as (word-operator (b .before .args .w) (b .read-expr .ensures) (c .before .k .given .1)) (b .before .pre .1))
     (λ c. search needs)
     (λ c.
     let b = c .before .before .before .before in

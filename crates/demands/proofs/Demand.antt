@@ -1,0 +1,291 @@
+-- Demands 2 and 3, for every plant, cut, path, two orders and buffers. Demand 3 is about the run of the whole question: each call gives what it
+-- owes or is refused with 15, so the run goes on from call to call, or stops at one whose reply or list is over its limit. Assumes nothing.
+use mathlib.Core.Path.{_≡_, refl, sym, _∙_, ap, subst, subst₂}
+use mathlib.Core.Logic.{_↔_, _⊎_, inl, inr}
+use mathlib.Core.List.{List, [], _∷_, _++_, map, map-map, flatten, Memᴰ·map, Memᴰ·of-map, Memᴰ·append-left, Memᴰ·append-right}
+use Prim.Native.Nat.{ℕ, _≤_, _<_}
+use native.Mathlib.Omega.{arith}
+use native.Mathlib.Decide.{decLt}
+use lib.ListN.{length, drop}
+use Rattle.sets.specs.Sets.{Mem, here, there, Perm, Lists}
+use Rattle.sets.proofs.Sets.{lists-iff, on-cons}
+use Rattle.sets.proofs.Perm.{perm-same, perm-map}
+use Rattle.files.specs.Word.{words, bytesOf}
+use Rattle.files.specs.Outcome.{Outcome, accepted}
+use Rattle.files.specs.Part.{nodes}
+use Rattle.files.specs.Answers.{answersOf}
+use Rattle.files.proofs.Words.{words-bytes}
+use Rattle.files.proofs.Bytes.{bytes-flatten}
+use Rattle.first_replies.specs.FirstReply.{firstReply}
+use Rattle.site_first.specs.First.{firstReplyCall}
+use Rattle.site_second.specs.Second.{secondReplyCall, calledIn}
+use Rattle.site_second.proofs.SecondReplies.{found}
+use Rattle.first_replies.proofs.FirstReplies.{first-reply, first-unique}
+use Rattle.first_replies.proofs.Traffic.{traffic}
+use Rattle.hub_calls.specs.CallList.{callList, callListCall}
+use Rattle.hub_join.specs.Join.{joined, joinCall}
+use Rattle.old.specs.Old.{listed}
+use Rattle.old.proofs.OldSearch.{old-call}
+use Rattle.demands.specs.Plant.{Found, FinalList, body}
+use Rattle.demands.specs.Question.{Call, first, calls, second, join, Asking, stopped, going, _>>=_, call, each, Answer, ask}
+use Rattle.demands.specs.Demand.{Demand2, Asked, Put, Right, question, inOrder, First, at-once, later, Owed, Over, NoneOver, SmallBundles, Claim, Demand3}
+use Rattle.demands.proofs.Comes.{found-iff}
+use Rattle.demands.proofs.Cross.{cross-answers}
+use Rattle.demands.proofs.OldSearch.{final-unique, old-final}
+use Rattle.demands.proofs.Accepts.{e, small, firsts, Owes, Gathered, gathered, called-iff, first-call, hub-call, second-call, Answered, answered, join-call, join-lists, join-perm, first-sized, list-sized, second-sized, joined-sized, joined-words}
+use Rattle.demands.proofs.Host.{call-gives, call-refuses, each-gives, stops-here, stops-later}
+use Rattle.demands.proofs.Owed.{firstOf, secondOf, bundle, list, bundle′, owed, Agree, owed-once}
+
+-- a plant that fits one file
+pub demand-2 : Demand2
+demand-2 p whole path fits (w, l, c) n m r = (
+  listed whole path,
+  old-call n m whole path (r .0) (r .1) (fits .word) (fits .small) (fits .whole) w l c,
+  old-final p whole (fits .whole) (fits .holds) (fits .every) path c,
+)
+
+-- files written and put together are the bytes of a bundle
+bundle-bytes : {A : Type 0} (write : A → List ℕ) (fs : List A) → flatten (map (λ f. bytesOf (write f)) fs) ≡ bytesOf (flatten (map write fs))
+bundle-bytes write fs = ap flatten (sym (map-map bytesOf write fs)) ∙ bytes-flatten (map write fs)
+
+module _ (q : Asked) where
+  -- the parts find what walks from the root find
+  found-is : {order : List (List ℕ)} → Gathered q order
+      → (x : ℕ) → ((f : List ℕ) × Mem f (q .parts) × Mem x (found f (q .path) (callList (flatten order)))) ↔ Found (q .plant) (e q) x
+  found-is {order} g x = (
+    λ (f, m, k). answers f m .sound x k .1,
+    λ k.
+        let (f, m, n) = q .cut .every x (found-iff (q .plant) (e q) x .0 k .0 .0) in
+        (f, m, answers f m .complete x (n, k)),
+  )
+    where
+      answers : (f : List ℕ) → Mem f (q .parts)
+          → Lists (λ x. Mem x (nodes (body f)) × Found (q .plant) (e q) x) (found f (q .path) (callList (flatten order)))
+      answers f m = cross-answers (q .plant) (q .parts) (q .cut) (q .one-root) (q .closed) (e q) (small q) f m
+          (calledIn (body f) (drop 1 (callList (flatten order)))) (called-iff q g f)
+
+  module _ (u : Put q) where
+    -- the sites' and the hub's calls, as the host makes them
+    abbrev firstOutcome : List ℕ → ℕ → ℕ → Outcome
+    firstOutcome part n m = firstReplyCall n m part (bytesOf (q .path))
+
+    abbrev firstCall : List ℕ → Asking (List ℕ)
+    firstCall part = call (first part) (firstOutcome part) (u .room .first part)
+
+    abbrev secondOutcome : List ℕ → List ℕ → ℕ → ℕ → Outcome
+    secondOutcome called part n m = secondReplyCall n m part (bytesOf (q .path)) called
+
+    abbrev secondCall : List ℕ → List ℕ → Asking (List ℕ)
+    secondCall called part = call (second part) (secondOutcome called part) (u .room .second part)
+
+    -- the question after the first bundle, and after the call list
+    abbrev after : List ℕ → Asking Answer
+    after called = each (secondCall called) (map bytesOf (u .order′)) >>= (λ seconds.
+        call join (λ n m. joinCall n m (flatten seconds)) (u .room .join) >>= (λ final. going (record { seconds = seconds; final = final })))
+
+    abbrev hub : List (List ℕ) → Asking Answer
+    hub firsts = call calls (λ n m. callListCall n m (flatten firsts)) (u .room .calls) >>= after
+
+    is-run : question q u ≡ (each firstCall (map bytesOf (u .order)) >>= hub)
+    unfolding ask
+    is-run = refl
+
+    part-of : (f : List ℕ) → Mem f (u .order) → Mem f (q .parts)
+    part-of = perm-same (u .once) .0
+
+    part-of′ : (f : List ℕ) → Mem f (u .order′) → Mem f (q .parts)
+    part-of′ = perm-same (u .once′) .0
+
+    first-owes : (f : List ℕ) → Mem f (u .order)
+        → Owes (firstReplyCall (u .room .first (bytesOf f) .out) (u .room .first (bytesOf f) .work) (bytesOf f) (bytesOf (q .path))) 4096 (firstOf q f)
+    first-owes f m = first-call q _ _ (u .enough .first f (part-of f m)) f (part-of f m)
+
+    abbrev Short : Type 0
+    Short = (f : List ℕ) → Mem f (q .parts) → length (firstOf q f) ≤ 4096
+
+    first-gives : (f : List ℕ) → Mem f (u .order) → length (firstOf q f) ≤ 4096 → firstCall (bytesOf f) ≡ going (bytesOf (firstOf q f))
+    first-gives f m h = call-gives (first (bytesOf f)) (firstOutcome (bytesOf f)) (u .room .first (bytesOf f)) (firstOf q f) (first-sized q f (part-of f m) h) (first-owes f m .gives h)
+
+    first-over : (f : List ℕ) → Mem f (u .order) → 4096 < length (firstOf q f) → firstCall (bytesOf f) ≡ stopped (first (bytesOf f)) 15
+    first-over f m h = call-refuses (first (bytesOf f)) (firstOutcome (bytesOf f)) (u .room .first (bytesOf f)) 14 (first-owes f m .over h)
+
+    -- no first reply is over its limit: the hub's turn
+    module _ (short : Short) (small : length (bundle q u) ≤ 8192) where
+      all : (f : List ℕ) → Mem f (firsts q) → length f ≤ 4096
+      all f m = let (g, i, e) = Memᴰ·of-map (firstOf q) (q .parts) m in subst (λ z. length z ≤ 4096) e (short g i)
+
+      first-replies : Gathered q (map (firstOf q) (u .order))
+      first-replies = gathered q all (map (firstOf q) (u .order)) (perm-map (firstOf q) (u .once))
+
+      to-hub : question q u ≡ (call calls (λ n m. callListCall n m (bytesOf (bundle q u))) (u .room .calls) >>= after)
+      to-hub =
+          is-run
+          ∙ ap (λ x. x >>= hub) (each-gives firstCall bytesOf (λ f. bytesOf (firstOf q f)) (u .order) (λ f m. first-gives f m (short f (part-of f m))))
+          ∙ ap (λ b. call calls (λ n m. callListCall n m b) (u .room .calls) >>= after) (bundle-bytes (firstOf q) (u .order))
+
+      hub-owes : Owes (callListCall (u .room .calls .out) (u .room .calls .work) (bytesOf (bundle q u))) 4096 (list q u)
+      hub-owes = hub-call q first-replies small _ _ (u .enough .calls)
+
+      stops-hub : 4096 < length (list q u) → question q u ≡ stopped calls 15
+      stops-hub h = to-hub ∙ ap (λ x. x >>= after) (call-refuses calls (λ n m. callListCall n m (bytesOf (bundle q u))) (u .room .calls) 14 (hub-owes .over h))
+
+      -- the call list is not over its limit either: the sites' second turn, and joining
+      module _ (fits : length (list q u) ≤ 4096) (small′ : length (bundle′ q u) ≤ 8192) where
+        second-replies : Answered q (list q u) (map (secondOf q (list q u)) (u .order′))
+        second-replies = answered q (list q u) (map (secondOf q (list q u)) (u .order′)) (perm-map (secondOf q (list q u)) (u .once′))
+
+        second-gives : (f : List ℕ) → Mem f (u .order′) → secondCall (bytesOf (list q u)) (bytesOf f) ≡ going (bytesOf (secondOf q (list q u) f))
+        second-gives f m =
+            call-gives (second (bytesOf f)) (secondOutcome (bytesOf (list q u)) (bytesOf f)) (u .room .second (bytesOf f)) (secondOf q (list q u) f) (second-sized q (list q u) f (part-of′ f m))
+            (second-call q first-replies fits _ _ (u .enough .second f (part-of′ f m)) f (part-of′ f m))
+
+        abbrev given : Answer
+        given = record { seconds = map (λ f. bytesOf (secondOf q (list q u) f)) (u .order′); final = bytesOf (joined (bundle′ q u)) }
+
+        run-ends : question q u ≡ going given
+        run-ends =
+            to-hub
+            ∙ ap (λ x. x >>= after) (call-gives calls (λ n m. callListCall n m (bytesOf (bundle q u))) (u .room .calls) (list q u) (list-sized q first-replies fits) (hub-owes .gives fits))
+            ∙ ap (λ x. x >>= (λ ss. call join (λ n m. joinCall n m (flatten ss)) (u .room .join) >>= (λ f. going (record { seconds = ss; final = f }))))
+            (each-gives (secondCall (bytesOf (list q u))) bytesOf (λ f. bytesOf (secondOf q (list q u) f)) (u .order′) second-gives)
+            ∙ ap (λ x. x >>= (λ f. going (record { seconds = given .seconds; final = f })))
+            (ap (λ b. call join (λ n m. joinCall n m b) (u .room .join)) (bundle-bytes (secondOf q (list q u)) (u .order′))
+            ∙ call-gives join (λ n m. joinCall n m (bytesOf (bundle′ q u))) (u .room .join) (joined (bundle′ q u)) (joined-sized q second-replies small′)
+            (join-call q second-replies small′ _ _ (u .enough .join)))
+
+        joined-final : FinalList (q .plant) (e q) (joined (bundle′ q u))
+        joined-final =
+            let (xs, all′, is) = join-lists q second-replies in
+            (xs, lists-iff (found-is first-replies) all′, is)
+
+        final-words : words (given .final) ≡ joined (bundle′ q u)
+        final-words = words-bytes (joined (bundle′ q u)) (joined-words q second-replies small′)
+
+        seconds-words : words (flatten (given .seconds)) ≡ bundle′ q u
+        seconds-words =
+            ap words (bundle-bytes (secondOf q (list q u)) (u .order′))
+            ∙ words-bytes (bundle′ q u) (second-replies .word)
+
+        ending : (a : Answer) × (question q u ≡ going a) × Right q a
+        ending = (
+          given,
+          run-ends,
+          record {
+            final = subst (FinalList (q .plant) (e q)) (sym final-words) joined-final;
+            once = subst₂ (λ s f. Perm (answersOf s) (answersOf f)) (sym seconds-words) (sym final-words)
+                (join-perm q second-replies small′);
+            old = λ whole fit n m r.
+                let (old, gives, is) = demand-2 (q .plant) whole (q .path) fit (q .path-accepted) n m r in
+                gives ∙ ap accepted (final-unique (q .plant) (e q) is joined-final ∙ sym final-words);
+          },
+        )
+
+    -- the question stops at the first call that owes a reply or a list over its limit, or ends where none does
+    module _ (o : Owed q u) (few : SmallBundles q u o) where
+      same : Agree q u o (owed q u)
+      same = owed-once q u o (owed q u)
+
+      -- what a part's first reply owes, from the call's bytes
+      first-is : (f : List ℕ) → Mem f (q .parts) → o .firstOf (words (bytesOf f)) ≡ firstOf q f
+      unfolding owed
+      first-is f m = ap (o .firstOf) (words-bytes f (q .cut .part f m .0)) ∙ same .first f m
+
+      first-short : (f : List ℕ) → Mem f (q .parts) → (Over q u o (first (bytesOf f)) → ⊥) → length (firstOf q f) ≤ 4096
+      first-short f m n = omega (arith, rw (first-is f m) at n)
+
+      list-short : (Over q u o calls → ⊥) → length (list q u) ≤ 4096
+      unfolding owed
+      list-short n = omega (arith, rw (same .list-is) at n)
+
+      first-small : Short → length (bundle q u) ≤ 8192
+      unfolding owed
+      first-small short = rw (same .bundle-is) at (few .first (λ f m. rw (same .first f m) (short f m)))
+
+      -- the sites' first calls
+      firsts-run : (fs : List (List ℕ)) (cs : List Call) (by : Call) → ((f : List ℕ) → Mem f fs → Mem f (u .order))
+          → First (Over q u o) (map (λ f. first (bytesOf f)) fs ++ cs) by
+          → (each firstCall (map bytesOf fs) ≡ stopped by 15) ⊎ (((f : List ℕ) → Mem f fs → length (firstOf q f) ≤ 4096) × First (Over q u o) cs by)
+      firsts-run [] cs by i r = inr (λ f m. elim m [ ], r)
+      firsts-run (f ∷ fs) cs by i (at-once h) =
+          let m = i f (here refl) in
+          inl (stops-here firstCall bytesOf f fs (first (bytesOf f)) 15 (first-over f m (rw (first-is f (part-of f m)) at h)))
+      firsts-run (f ∷ fs) cs by i (later n r) =
+          let m = i f (here refl) in
+          let h = first-short f (part-of f m) n in
+          elim (firsts-run fs cs by (λ g k. i g (there k)) r) [
+            | inl s ↦ inl (stops-later firstCall bytesOf f fs (bytesOf (firstOf q f)) by 15 (first-gives f m h) s)
+            | inr (a, r) ↦ inr (on-cons (λ g. length (firstOf q g) ≤ 4096) h a, r)
+          ]
+
+      -- the hub's call list and what comes behind it
+      abbrev hubOn : List Call
+      hubOn = calls ∷ (map (λ f. second (bytesOf f)) (u .order′) ++ (join ∷ []))
+
+      -- no call behind the call list owes a reply or a list over its limit
+      none-behind : (fs : List (List ℕ)) (by : Call) → First (Over q u o) (map (λ f. second (bytesOf f)) fs ++ (join ∷ [])) by → ⊥
+      none-behind [] by (at-once h) = h
+      none-behind [] by (later n r) = elim r [ ]
+      none-behind (f ∷ fs) by (at-once h) = h
+      none-behind (f ∷ fs) by (later n r) = none-behind fs by r
+
+      hub-run : Short → (by : Call) → First (Over q u o) hubOn by → question q u ≡ stopped by 15
+      unfolding owed
+      hub-run short by (at-once h) = stops-hub short (first-small short) (rw (same .list-is) at h)
+      hub-run short by (later n r) = absurd (none-behind (u .order′) by r)
+
+      stops : (by : Call) → First (Over q u o) (inOrder q u) by → question q u ≡ stopped by 15
+      stops by r = elim (firsts-run (u .order) hubOn by (λ f m. m) r) [
+        | inl s ↦ is-run ∙ ap (λ x. x >>= hub) s
+        | inr (short, r) ↦ hub-run (λ f m. short f (perm-same (u .once) .1 f m)) by r
+      ]
+
+      ends : NoneOver q u o → (a : Answer) × (question q u ≡ going a) × Right q a
+      unfolding owed
+      ends none = ending short (first-small short) (list-short (none calls hub-call)) (rw (same .bundle-is′) at (few .second none))
+        where
+          short : Short
+          short f m = first-short f m (none (first (bytesOf f)) (Memᴰ·append-left hubOn (Memᴰ·map (λ f. first (bytesOf f)) (perm-same (u .once) .1 f m))))
+
+          hub-call : Mem calls (inOrder q u)
+          hub-call = Memᴰ·append-right (map (λ f. first (bytesOf f)) (u .order)) (here refl)
+
+      -- whether a call owes a reply or a list over its limit can be told
+      decide : (c : Call) → Dec (Over q u o c)
+      decide (first part) = decLt 4096 (length (o .firstOf (words part)))
+      decide calls = decLt 4096 (length (o .list))
+      decide (second part) = no (λ h. h)
+      decide join = no (λ h. h)
+
+      some-first : (cs : List Call) → ((c : Call) × First (Over q u o) cs c) ⊎ ((c : Call) → Mem c cs → Over q u o c → ⊥)
+      some-first [] = inr (λ c m. elim m [ ])
+      some-first (c ∷ cs) = elim (decide c) [
+        | yes h ↦ inl (c, at-once h)
+        | no n ↦ elim (some-first cs) [ inl (d, r) ↦ inl (d, later n r) | inr a ↦ inr (on-cons (λ c. Over q u o c → ⊥) n a) ]
+      ]
+
+      -- a question stops in one way, and does not stop if it goes on
+      same-stop : (c d : Call) (k l : ℕ) → question q u ≡ stopped c k → question q u ≡ stopped d l → (c ≡ d) × (k ≡ l)
+      same-stop c d k l p r = (cc, cc)
+
+      no-stop : (c : Call) (k : ℕ) (a : Answer) → question q u ≡ stopped c k → question q u ≡ going a → ⊥
+      no-stop c k a p r = let z : _≡_ {A = ℕ} 0 1 = cc in omega arith
+
+      claim : Claim q u o
+      claim = record {
+        stops = λ by k. (
+          λ r. elim (some-first (inOrder q u)) [
+            | inl (c, s) ↦ let (i, j) = same-stop by c k 15 r (stops c s) in (subst (First (Over q u o) (inOrder q u)) (sym i) s, j)
+            | inr none ↦ let end = ends none in absurd (no-stop by k (end .0) r (end .1))
+          ],
+          λ (s, i). stops by s ∙ ap (stopped by) (sym i),
+        );
+        over = λ by m h. elim (some-first (inOrder q u)) [ inl (c, s) ↦ (c, stops c s) | inr none ↦ absurd (none by m h) ];
+        ends = ends;
+      }
+
+pub demand-3 : Demand3
+demand-3 = record {
+  claim = claim;
+  owed = owed;
+  traffic = λ part path f p a r. rw (first-unique part path f (firstReply part path) r (first-reply part path p a)) (traffic part path a);
+}

@@ -1,0 +1,58 @@
+-- Demand 2's list: of a plant that a whole file holds, the old search lists exactly the nodes to which a walk from the root spells a word of the
+-- path. Assumes nothing.
+use mathlib.Core.Path.{_≡_, subst}
+use mathlib.Core.Logic.{_↔_}
+use mathlib.Core.List.{List, map, Memᴰ·map, Memᴰ·of-map}
+use Prim.Native.Nat.{ℕ, _^_, _≤_, _<_}
+use native.Mathlib.Omega.{arith}
+use lib.Dec.{T}
+use lib.ListN.{drop}
+use Rattle.sets.specs.Sets.{Mem, Lists}
+use Rattle.sets.specs.Reach.{Reach, seed, next}
+use Rattle.sets.proofs.Sets.{lists-iff, made-unique}
+use Rattle.files.specs.Field.{file, answerWord, pair}
+use Rattle.files.specs.Part.{nodes, roots, running, wholeCheck}
+use Rattle.files.specs.Path.{pathCheck}
+use Rattle.files.proofs.Blocks.{roots-nodes, node-small}
+use Rattle.files.proofs.Parts.{nodes-ascending, whole-part}
+use Rattle.expressions.specs.Expr.{Expr, count}
+use Rattle.expressions.specs.Positions.{accepts}
+use Rattle.expressions.specs.Labels.{exprOf}
+use Rattle.expressions.proofs.Paths.{path-small}
+use Rattle.walks.specs.Product.{stepIn, answers}
+use Rattle.walks.proofs.Product.{answers-lists}
+use Rattle.old.specs.Old.{listed}
+use Rattle.old.proofs.OldSearch.{rootPairs, listed-is}
+use Rattle.demands.specs.Plant.{Plant, Found, FinalList, Holds, body}
+use Rattle.demands.proofs.Comes.{Comes, begin, link, ComesTo, pair-comes, found-iff, found-reach, link-step}
+
+-- there is one list of demand 2
+pub final-unique : (p : Plant) (e : Expr) {ws vs : List ℕ} → FinalList p e ws → FinalList p e vs → ws ≡ vs
+final-unique p e = made-unique (λ xs. file 15 0 0 (map answerWord xs))
+
+-- a file that holds the plant, each node of it with its links, and is a whole
+module _ (p : Plant) (f : List ℕ) (whole : wholeCheck f ≡ 0) (holds : Holds p f) (every : (x : ℕ) → p .Node x → Mem x (nodes (body f))) where
+  module _ (e : Expr) (small : count e ≤ 15) where
+    root-comes : (c : ℕ) → Mem c (rootPairs f) → (c < 2 ^ 20) × ComesTo p e c
+    root-comes c m =
+        let (r, i, q) = Memᴰ·of-map (λ x. pair x 0) (roots (body f)) m in
+        let node = roots-nodes (body f) r i in
+        (omega (arith, node-small (body f) r node), subst (ComesTo p e) q (pair-comes p e r 0 (omega arith) .1 (begin (holds .is-root r i))))
+
+    comes-reach : {x q : ℕ} → Comes p e x q → Reach (stepIn (body f) e) (rootPairs f) (pair x q)
+    comes-reach (begin {r = r} k) = seed (Memᴰ·map (λ x. pair x 0) (holds .has-root r (every r (p .root-node r k)) k))
+    comes-reach (link {x = x} {a = a} {y = y} {t = t} c n l s) =
+        next (comes-reach c) (link-step p e small f holds t c (every x (n .0)) n l s)
+
+    old-lists : Lists (Found p e) (answers (body f) e (rootPairs f))
+    old-lists = lists-iff
+        (λ x. (λ r. found x .0 r .1, λ r. found x .1 (every x (found-iff p e x .0 r .0 .0), r)))
+        (answers-lists (body f) e small (rootPairs f) (λ c m. root-comes c m .0) (nodes-ascending f (whole-part f whole)))
+      where
+        found : (x : ℕ) → (Mem x (running (body f)) × ((q : ℕ) × Reach (stepIn (body f) e) (rootPairs f) (pair x q) × T (accepts e q)))
+            ↔ (Mem x (nodes (body f)) × Found p e x)
+        found x = found-reach p e small f holds (rootPairs f) x (λ c m. root-comes c m .1) (λ n q. comes-reach)
+
+  -- the old search's list is demand 2's
+  pub old-final : (path : List ℕ) → pathCheck path ≡ 0 → FinalList p (exprOf (drop 1 path)) (listed f path)
+  old-final path ok = (answers (body f) (exprOf (drop 1 path)) (rootPairs f), old-lists (exprOf (drop 1 path)) (path-small path ok), listed-is f path)

@@ -1,0 +1,65 @@
+-- Believed. The user's demand 1. Any file, cut list or bundle, with buffers of any length, gets its one result or a refusal under a number
+-- of document 01, and a refusal leaves output and working buffer all zero. It is said of `leaves` of the calls' outcomes, and that is what the
+-- calls leave, by their contracts (mowqachi/src/lib.rt). That a call ends and touches nothing else is what the check proves of every function.
+use Prim.Native.Nat.{ℕ, _*_, _≤_}
+use mathlib.Core.Path.{_≡_}
+use mathlib.Core.Logic.{_⊎_}
+use mathlib.Core.List.{List, [], _∷_}
+use lib.ListN.{length, drop}
+use Rattle.sets.specs.Sets.{Mem}
+use Rattle.files.specs.Word.{words}
+use Rattle.files.specs.Outcome.{Outcome, zeros, padded, left, leaves}
+use Rattle.expressions.specs.Labels.{exprOf}
+use Rattle.first_replies.specs.FirstReply.{IsFirstReply}
+use Rattle.site_first.specs.First.{firstReplyCall}
+use Rattle.site_second.specs.Second.{IsSecondReply, secondReplyCall}
+use Rattle.hub_calls.specs.CallList.{IsCallList, callListCall}
+use Rattle.hub_join.specs.Join.{IsJoined, joinCall}
+use Rattle.old.specs.Old.{oldSearchCall}
+use Rattle.cutter.specs.Cut.{cutCall}
+use Rattle.cutter.specs.Cut as cutter
+use Rattle.demands.specs.Plant.{FinalList}
+use Rattle.demands.specs.PlantOf.{plantOf}
+
+-- What a call leaves of an output of n and a working buffer of m bytes, one of two. A refusal: its number is one of the call's, and both buffers
+-- are zero. Or number 0: a file that is what the call owes, within its limit, for which there is room, stands in the output with zeros past it,
+-- and the working buffer is zero.
+abbrev pub Settles {ℓ} : List ℕ → ℕ → (List ℕ → Type ℓ) → Outcome → ℕ → ℕ → Type ℓ
+Settles numbers limit Owed o n m =
+    ((k : ℕ) × Mem k numbers × (leaves o n m ≡ left k (zeros n) (zeros m)))
+    ⊎ ((f : List ℕ) × Owed f × (length f ≤ limit) × (4 * limit ≤ n) × (leaves o n m ≡ left 0 (padded n f) (zeros m)))
+
+-- The numbers of each call, as the table of docs/CALLS.md has them
+abbrev pub oldSearchNumbers : List ℕ
+oldSearchNumbers = 1 ∷ 2 ∷ 3 ∷ 4 ∷ 5 ∷ 6 ∷ 7 ∷ 8 ∷ 9 ∷ []
+
+abbrev pub cutNumbers : List ℕ
+cutNumbers = 1 ∷ 2 ∷ 3 ∷ 4 ∷ 5 ∷ 6 ∷ 7 ∷ 8 ∷ 11 ∷ []
+
+abbrev pub firstReplyNumbers : List ℕ
+firstReplyNumbers = 1 ∷ 2 ∷ 3 ∷ 4 ∷ 5 ∷ 6 ∷ 7 ∷ 9 ∷ 15 ∷ []
+
+abbrev pub callListNumbers : List ℕ
+callListNumbers = 1 ∷ 2 ∷ 3 ∷ 4 ∷ 5 ∷ 6 ∷ 7 ∷ 10 ∷ 12 ∷ 13 ∷ 14 ∷ 15 ∷ []
+
+abbrev pub secondReplyNumbers : List ℕ
+secondReplyNumbers = 1 ∷ 2 ∷ 3 ∷ 4 ∷ 5 ∷ 6 ∷ 7 ∷ 9 ∷ 10 ∷ 12 ∷ 14 ∷ []
+
+abbrev pub joinNumbers : List ℕ
+joinNumbers = 1 ∷ 2 ∷ 3 ∷ 4 ∷ 5 ∷ 6 ∷ 12 ∷ 13 ∷ []
+
+abbrev pub rows : List (List ℕ)
+rows = oldSearchNumbers ∷ cutNumbers ∷ firstReplyNumbers ∷ callListNumbers ∷ secondReplyNumbers ∷ joinNumbers ∷ []
+
+-- Demand 1: for all bytes and all buffers. What a call owes is said in document 01's words, which one file at most meets (docs/DECISIONS.md, 68).
+pub record Demand1 : Type 1 where
+  pub old-search : (whole path : List ℕ) (n m : ℕ)
+      → Settles oldSearchNumbers 8192 (FinalList (plantOf (words whole)) (exprOf (drop 1 (words path)))) (oldSearchCall n m whole path) n m
+  pub cut : (whole cuts : List ℕ) (site n m : ℕ) → Settles cutNumbers 4096 (λ f. f ≡ cutter.cut (words whole) cuts site) (cutCall n m whole cuts site) n m
+  pub first-reply : (part path : List ℕ) (n m : ℕ) → Settles firstReplyNumbers 4096 (IsFirstReply (words part) (words path)) (firstReplyCall n m part path) n m
+  pub call-list : (bundle : List ℕ) (n m : ℕ) → Settles callListNumbers 4096 (IsCallList (words bundle)) (callListCall n m bundle) n m
+  pub second-reply : (part path calls : List ℕ) (n m : ℕ)
+      → Settles secondReplyNumbers 4096 (IsSecondReply (words part) (words path) (words calls)) (secondReplyCall n m part path calls) n m
+  pub join : (bundle : List ℕ) (n m : ℕ) → Settles joinNumbers 8192 (IsJoined (words bundle)) (joinCall n m bundle) n m
+  -- the numbers are document 01's, and 0 is none of them: a call gives its result or is refused, and not both
+  pub numbered : (row : List ℕ) → Mem row rows → (k : ℕ) → Mem k row → (1 ≤ k) × (k ≤ 15)

@@ -1,0 +1,4 @@
+pub mod Written
+pub mod Reported
+pub mod FirstReplies
+pub mod Traffic

@@ -1,0 +1,1 @@
+// What a first reply is, and what follows from that. Nothing runs here.

@@ -1,0 +1,19 @@
+-- `hub_calls::call::answer` meets its contract. Assumes nothing.
+use borrow.Author.Needs.{needs}
+use Rattle.output.proofs.Frame.{passed, answer-refused, answer-filed}
+use Rattle.hub_calls.specs.CallList.{callListCall}
+use Rattle.hub_calls.proofs.call.answer.Statement.{statement}
+use Rattle.hub_calls.proofs.call.answer.Tie as tie
+
+pub answer-spec : {M : Type 1} → statement M
+unfolding callListCall
+answer-spec =
+    tie.close
+    (tie.spec
+    (λ c κs. search needs)
+    (λ c. search needs)
+    (λ c. search (answer-refused, needs))
+    (λ c κs. search (passed, needs))
+    (λ c. search needs)
+    (λ c. search needs)
+    (λ c. search (answer-filed, needs)))

@@ -1,0 +1,2 @@
+// Which labels a label word of a path holds, as a low and a high end.
+pub mod interval;

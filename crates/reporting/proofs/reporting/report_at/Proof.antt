@@ -1,0 +1,50 @@
+-- `reporting::reporting::report_at` meets its contract. Assumes nothing.
+use borrow.Author.Needs.{needs}
+use Rattle.files.specs.Word.{words}
+use Rattle.reporting.specs.Reporting.{wordsAt}
+use Rattle.reporting.proofs.Reports.{over-added, here-some, here-none, door-node}
+use Rattle.reporting.proofs.reporting.report_at.Statement.{statement}
+use Rattle.reporting.proofs.reporting.report_at.Tie as tie
+
+returns : tie.Need-returns
+returns c =
+    let start = c .before .before .before .before in
+    over-added (wordsAt (words (start .args .part .now)) (start .args .n) (start .args .i)) (start .pre .0 .ready) (c .if1 .taken)
+
+report-door-requires : tie.Need-report-door-requires
+report-door-requires c κs =
+    let test = c .before .before in
+    let door = test .before in
+    let word = door .before in
+    let start = word .before .before .before .before .before in
+    (start .pre .0, door-node _ _ (word .word-at .ensures) (door .is-door .ensures) (test .if2 .taken), start .pre .1)
+
+returns-2 : tie.Need-returns-2
+returns-2 c =
+    let report = c .before .before .before .before in
+    let test = report .before .before .before in
+    let door = test .before in
+    let word = door .before in
+    let a = word .before .before .before .before .before .args in
+    here-some (words (a .part .now)) (a .n) (a .i) (word .word-at .ensures) (door .is-door .ensures) (test .if2 .taken) (report .report-door .ensures)
+
+returns-3 : tie.Need-returns-3
+returns-3 c =
+    let door = c .before in
+    let word = door .before in
+    let start = word .before .before .before .before .before in
+    let a = start .args in
+    here-none (words (a .part .now)) (a .n) (a .i) (word .word-at .ensures) (door .is-door .ensures) (c .if2 .left) (start .pre .0 .ready)
+
+pub report-at-spec : {M : Type 1} → statement M
+report-at-spec =
+    tie.close
+    (tie.spec
+    returns
+    (λ c κs. search needs)
+    (λ c κs. search needs)
+    report-door-requires
+    (λ c. search needs)
+    (λ c. search needs)
+    returns-2
+    returns-3)

@@ -1,0 +1,34 @@
+-- `reporting::reporting::report_door` meets its contract. Assumes nothing.
+use borrow.Author.Needs.{needs}
+use native.Mathlib.Omega.{arith}
+use Rattle.files.specs.Word.{words}
+use Rattle.reporting.proofs.Reports.{may-report-as, door-added}
+use Rattle.reporting.proofs.reporting.report_door.Statement.{statement}
+use Rattle.reporting.proofs.reporting.report_door.Tie as tie
+
+report-states-requires : tie.Need-report-states-requires
+report-states-requires c κs =
+    let start = c .before .before .before .before .before .before .before .before .before .before .before in
+    (may-report-as (start .pre .0) (search needs), start .pre .1, omega (arith, start .pre .2))
+
+returns : tie.Need-returns
+returns c =
+    let states = c .before .before .before .before in
+    let push = states .before .before .before .before .before in
+    let door = push .before .before in
+    let word = door .before in
+    let start = word .before .before .before .before in
+    let a = start .args in
+    door-added (words (a .part .now)) (a .n) (a .i) (start .pre .0 .ready) (word .word-at .ensures) (door .door-of .ensures) (push .push .ensures) (search needs) (states .report-states .ensures)
+
+pub report-door-spec : {M : Type 1} → statement M
+report-door-spec =
+    tie.close
+    (tie.spec
+    (λ c κs. search needs)
+    (λ c κs. search needs)
+    (λ c κs. search needs)
+    report-states-requires
+    (λ c. search needs)
+    (λ c. search needs)
+    returns)

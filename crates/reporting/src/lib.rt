@@ -1,0 +1,2 @@
+// The doors and rows of a first reply, written.
+pub mod reporting;

@@ -1,0 +1,2 @@
+// The called pairs of a site's part.
+pub mod called;

@@ -1,0 +1,79 @@
+// The first reply, as a call.
+ghost use mathlib.Core.Path.{_≡_};
+ghost use mathlib.Core.List.{[], _∷_};
+ghost use lib.ListN.{length};
+ghost use Rattle.files.specs.Word.{words};
+ghost use Rattle.files.specs.Outcome.{left, leaves};
+ghost use Rattle.files.specs.Part.{partCheck};
+ghost use Rattle.files.specs.Path.{pathCheck};
+ghost use Rattle.files.specs.Limits.{partWords, pathWords, replyWords};
+ghost use Rattle.output.specs.Writer.{Filed};
+ghost use Rattle.output.specs.Frame.{input, Checked, Passed, Responds};
+ghost use Rattle.first_replies.specs.FirstReply.{firstReply};
+ghost use Rattle.site_first.specs.First.{firstReplyCall};
+use files::buffer::clear;
+use files::field::site;
+use files::limits::REPLY_WORDS;
+use files::refuse::check_room;
+use files::word::word_at;
+use output::close::close;
+use output::settle::settle;
+use paths::automaton::position_automaton;
+use preparing::prepare::prepare;
+use queries::path::check_path;
+use readers::part::check_part;
+use reporting::reporting::report_doors;
+
+// The number of the first check that fails: the buffers, the part, the path.
+fn check(part: &[u8], path: &[u8], out: usize, work: usize) -> u32
+    ensures { λ r. ⌜ Checked replyWords out work
+        (input partWords (now (part .entry)) (partCheck (words (now (part .entry)))) ∷ input pathWords (now (path .entry)) (pathCheck (words (now (path .entry)))) ∷ []) r ⌝ }
+{
+    let room = check_room(REPLY_WORDS, out, work);
+    if room != 0 {
+        return room;
+    }
+    let n = check_part(part);
+    if n != 0 {
+        return n;
+    }
+    check_path(path)
+}
+
+// Writes the reply, as far as it fits. Gives 15 where it is over its limit, and only then.
+fn write(part: &[u8], path: &[u8], out: &mut [u8], work: &mut [u8]) -> u32
+    requires { ⌜ Passed replyWords (length (now out)) (length (now work))
+        (input partWords (now part) (partCheck (words (now part))) ∷ input pathWords (now path) (pathCheck (words (now path))) ∷ []) ⌝ }
+    ensures { λ r. ⌜ Filed replyWords (length (now (out .entry))) (firstReply (words (now (part .entry))) (words (now (path .entry)))) (now (out .exit)) r ⌝ }
+{
+    let a = position_automaton(path);
+    let outside = prepare(part, a, work);
+    let follow = a.follow;
+    let n = a.letters.n;
+    clear(out);
+    let count = report_doors(part, follow, work, outside, n, out, 1);
+    let s = site(word_at(part, 0));
+    close(7, s, n % 16, REPLY_WORDS, count, out)
+}
+
+// The reply, or the number of the check that refuses.
+fn answer(part: &[u8], path: &[u8], out: &mut [u8], work: &mut [u8]) -> u32
+    ensures { λ r. ⌜ Responds (firstReplyCall (length (now (out .entry))) (length (now (work .entry))) (now (part .entry)) (now (path .entry)))
+        (length (now (out .entry))) (now (out .exit)) r ⌝ }
+{
+    let n = check(part, path, out.len(), work.len());
+    if n != 0 {
+        return n;
+    }
+    write(part, path, out, work)
+}
+
+// The call.
+pub fn first_reply(part: &[u8], path: &[u8], out: &mut [u8], work: &mut [u8]) -> u32
+    ensures { λ r. ⌜ left r (now (out .exit)) (now (work .exit))
+        ≡ leaves (firstReplyCall (length (now (out .entry))) (length (now (work .entry))) (now (part .entry)) (now (path .entry)))
+        (length (now (out .entry))) (length (now (work .entry))) ⌝ }
+{
+    let number = answer(part, path, out, work);
+    settle(number, out, work)
+}

@@ -1,0 +1,2 @@
+// A question makes two trips: to the sites and back to the hub.
+pub mod calls;

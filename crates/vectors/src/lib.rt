@@ -1,1 +1,0 @@
-// Nothing runs here: proofs/Random.antt holds the definitions to the Rust evaluation of document 01.

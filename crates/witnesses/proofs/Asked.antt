@@ -1,0 +1,147 @@
+-- The demands are not empty. Every accepted whole file, cut list and path, as bytes, gives demand 3's givens: the plant that the file holds, and
+-- the parts that the cutter makes of it. Document 01's own W, P and cut are one, and their question is run. Assumes nothing.
+use mathlib.Core.Path.{_≡_, refl}
+use mathlib.Core.Bool.{not}
+use mathlib.Core.List.{List, [], _∷_, map, flatten}
+use Prim.Native.Nat.{ℕ, _^_, _≤_}
+use native.Mathlib.Omega.{arith}
+use lib.Dec.{T, ltb, ltb→lt, lit≤}
+use lib.ListN.{length}
+use Rattle.sets.specs.Sets.{Perm, any, setOf}
+use Rattle.sets.specs.Reach.{closure}
+use Rattle.sets.proofs.Filter.{all-iff}
+use Rattle.sets.proofs.Perm.{perm-refl}
+use Rattle.files.specs.Word.{words, bytesOf}
+use Rattle.files.specs.Refuse.{_then_, sizeCheck}
+use Rattle.files.specs.Outcome.{accepted}
+use Rattle.files.specs.Part.{wholeCheck}
+use Rattle.files.specs.Path.{pathCheck}
+use Rattle.files.proofs.Checks.{checks, then-iff}
+use Rattle.files.proofs.Words.{words-length}
+use Rattle.files.proofs.Bytes.{Bytes, words-below, bytes-words}
+use Rattle.walks.specs.Product.{stepIn, reached, answers}
+use Rattle.first_replies.specs.FirstReply.{reported, doorWords, firstReply}
+use Rattle.site_first.specs.First.{firstReplyCall}
+use Rattle.site_second.specs.Second.{secondReply, secondReplyCall}
+use Rattle.hub_calls.specs.CallList.{called, callList, callListCall}
+use Rattle.hub_join.specs.Join.{joined, joinCall}
+use Rattle.cutter.specs.Cut.{cut, cutCall}
+use Rattle.cutter.proofs.Parts.{cut-call}
+use Rattle.table.specs.Table.{whole, path, part0, part1, calls, second0, second1, final, b}
+use Rattle.files.specs.Cuts.{cutCheck}
+use Rattle.demands.specs.Plant.{Words, body}
+use Rattle.demands.specs.PlantOf.{plantOf, partsOf}
+use Rattle.demands.specs.Question.{Buffers, Room, going, ask}
+use Rattle.demands.specs.Demand.{Asked, Put, SmallBundles, Claim, Enough, question}
+use Rattle.demands.proofs.PlantOf.{plant-one-root, plant-closed}
+use Rattle.demands.proofs.Cutter.{true-cut, some-part, few-parts}
+use Rattle.demands.proofs.Owed.{owed}
+use Rattle.demands.proofs.Demand.{demand-3}
+
+-- the givens, by words
+abbrev pub asked : (f cuts p : List ℕ) → Words f → length f ≤ 4096 → wholeCheck f ≡ 0
+    → (site : ℕ) → cutCheck (body f) cuts site ≡ 0
+    → Words p → length p ≤ 64 → pathCheck p ≡ 0 → Asked
+asked f cuts p word few c site d path-word path-short path-read = record {
+  plant = plantOf f;
+  one-root = plant-one-root f c;
+  closed = plant-closed f c;
+  parts = partsOf f cuts;
+  some-part = some-part (plant-one-root f c) (true-cut f cuts c site d word few);
+  few-parts = few-parts (true-cut f cuts c site d word few);
+  cut = true-cut f cuts c site d word few;
+  path = p;
+  path-accepted = (path-word, path-short, path-read);
+}
+
+-- accepted bytes are those of accepted words
+pub record Read (limit : ℕ) (check : List ℕ → ℕ) (s : List ℕ) : Type 0 where
+  pub word : Words (words s)
+  pub few : length (words s) ≤ limit
+  pub read : check (words s) ≡ 0
+  pub same : bytesOf (words s) ≡ s
+
+pub accepted-bytes : (limit : ℕ) (check : List ℕ → ℕ) (s : List ℕ) → Bytes s → (sizeCheck limit s then check (words s)) ≡ 0 → Read limit check s
+accepted-bytes limit check s h e =
+    let (z, c) = then-iff (sizeCheck limit s) (check (words s)) .0 e in
+    let t = simp checks at z in
+    record { word = words-below s h; few = omega (arith, words-length s, t .1); read = c; same = bytes-words s h (t .0 .0) }
+
+-- a cut list that is accepted for one site is for any
+for-site : (ws cuts : List ℕ) (site : ℕ) → cutCheck ws cuts 0 ≡ 0 → site ≤ 15 → cutCheck ws cuts site ≡ 0
+for-site ws cuts site e s = let h = simp checks at e in simp checks (h .0, s)
+
+-- the givens, by bytes
+module _ (whole cuts path : List ℕ) (whole-bytes : Bytes whole) (path-bytes : Bytes path)
+    (whole-read : (sizeCheck 4096 whole then wholeCheck (words whole)) ≡ 0) (cuts-read : cutCheck (body (words whole)) cuts 0 ≡ 0)
+    (path-read : (sizeCheck 64 path then pathCheck (words path)) ≡ 0) where
+  w : Read 4096 wholeCheck whole
+  w = accepted-bytes 4096 wholeCheck whole whole-bytes whole-read
+
+  p : Read 64 pathCheck path
+  p = accepted-bytes 64 pathCheck path path-bytes path-read
+
+  pub givens : Asked
+  givens = asked (words whole) cuts (words path) (w .word) (w .few) (w .read) 0 cuts-read (p .word) (p .few) (p .read)
+
+  -- the givens' plant is the one that the file holds, and their parts are what the cutter gives for the sites that the list names
+  pub givens-plant : givens .plant ≡ plantOf (words whole)
+  unfolding givens
+  givens-plant = refl
+
+  pub givens-calls : (site : ℕ) → site ≤ 15 → (n m : ℕ) → Enough 4096 n m → cutCall n m whole cuts site ≡ accepted (cut (words whole) cuts site)
+  givens-calls site s n m (h, k) =
+      rw (w .same) at (cut-call n m (words whole) cuts site h k (w .word) (w .few) (w .read) (for-site (body (words whole)) cuts site cuts-read s))
+
+  pub givens-parts : givens .parts ≡ map (cut (words whole) cuts) (setOf cuts)
+  unfolding givens
+  givens-parts = refl
+
+pub words-by-test : (f : List ℕ) → T (not (any (λ w. not (ltb w (2 ^ 32))) f)) → Words f
+words-by-test f t w m = ltb→lt w (2 ^ 32) (all-iff (λ w. ltb w (2 ^ 32)) f .0 t w m)
+
+-- document 01's end-to-end files
+abbrev pub example : Asked
+example = asked whole (0 ∷ 1 ∷ 0 ∷ []) path (words-by-test whole tt) (lit≤ tt) refl 0 refl (words-by-test path tt) (lit≤ tt) refl
+
+-- the example's parts are the document's
+pub example-parts : example .parts ≡ part0 ∷ part1 ∷ []
+unfolding cut
+example-parts = refl
+
+-- buffers of just the limits
+abbrev pub exampleRoom : Room
+exampleRoom =
+    let reply : Buffers = record { out = 16384; work = 32768 } in
+    record { first = λ part. reply; calls = reply; second = λ part. reply; join = record { out = 32768; work = 32768 } }
+
+-- the sites in any two orders, in buffers of just the limits
+abbrev pub asking : (q : Asked) (order order′ : List (List ℕ)) → Perm order (q .parts) → Perm order′ (q .parts) → Put q
+asking q order order′ once once′ = record {
+  order = order;
+  order′ = order′;
+  once = once;
+  once′ = once′;
+  room = exampleRoom;
+  enough = record { first = λ f m. (lit≤ tt, lit≤ tt); calls = (lit≤ tt, lit≤ tt); second = λ f m. (lit≤ tt, lit≤ tt); join = (lit≤ tt, lit≤ tt) };
+}
+
+-- the sites in their order, in both trips
+abbrev pub inTurn : (q : Asked) → Put q
+inTurn q = asking q (q .parts) (q .parts) (perm-refl (q .parts)) (perm-refl (q .parts))
+
+abbrev pub examplePut : Put example
+examplePut = inTurn example
+
+-- the example's question is run, and ends with the document's files
+pub example-run : question example examplePut ≡ going (record { seconds = b second0 ∷ b second1 ∷ []; final = b final })
+unfolding ask flatten closure stepIn reached answers reported doorWords firstReply firstReplyCall secondReply secondReplyCall called callList callListCall joined joinCall cut
+example-run = refl
+
+-- demand 3 says something of the example
+pub example-small : SmallBundles example examplePut (owed example examplePut)
+unfolding owed flatten closure stepIn reached answers reported doorWords firstReply secondReply called callList cut
+example-small = record { first = λ h. lit≤ tt; second = λ h. lit≤ tt }
+
+pub example-claim : Claim example examplePut (owed example examplePut)
+example-claim = demand-3 .claim example examplePut (owed example examplePut) example-small

@@ -1,0 +1,6 @@
+pub mod Vectors
+pub mod Asked
+pub mod TwoSites
+pub mod Wide
+pub mod Over
+pub mod StoppedNodes
