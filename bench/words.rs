@@ -1,4 +1,4 @@
-//! Document 01's words, as the plain versions and the inputs use them.
+//! The documents' words, as the plain versions and the inputs use them.
 
 pub const NODE: u32 = 2 << 28;
 pub const EDGE: u32 = 3 << 28;
@@ -19,6 +19,11 @@ pub const STAR: u32 = 6 << 28 | 3;
 
 pub fn range(low: u32, high: u32) -> u32 {
     5 << 28 | high << 12 | low
+}
+
+/// All labels but those of the range.
+pub fn outside(low: u32, high: u32) -> u32 {
+    range(low, high) | 2 << 24
 }
 
 pub fn edge(label: u32, target: u32) -> u32 {
@@ -61,6 +66,11 @@ pub fn pair_node(w: u32) -> u32 {
 
 pub fn state(w: u32) -> u32 {
     w & 15
+}
+
+/// The sort of a label word.
+pub fn sort(w: u32) -> u32 {
+    w >> 24 & 15
 }
 
 pub fn words(bytes: &[u8]) -> Vec<u32> {

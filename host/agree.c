@@ -42,12 +42,14 @@ static void parse(struct sample *s, enum subject subject, const char *text)
 #define W "10000007 20030001 30050002 20000002 30060003 20000003 30050002"
 #define HALTED "10000007 20030001 30050002 20000002 30060003 20040003 30050002"
 #define P "40300007 50005005 50006006 50005005 60000001 60000003 60000001"
+#define BUT "40300007 52006006 52005005 52006006 60000001 60000003 60000001"
 #define FIRST_0 "7030000b 80010001 90000000 a0000021 90000002 a0000023 80000003 90000000 a0000021 90000002 a0000023"
 #define FIRST_1 "71300006 80000002 90000001 a0000032 90000003 a0000032"
 #define CALL_WORDS "b0300005 c0000010 c0000021 c0000023 c0000032"
 #define STOPPED_DOOR "10000005 20030001 30050002 20050003 30050002"
 
-/* Document 01's table and end-to-end files, then rows of docs/DECISIONS.md on which readings differ, then stopped nodes. */
+/* Document 01's table and end-to-end files, then rows of docs/DECISIONS.md on which readings differ, then stopped nodes, then labels outside a
+   range. */
 static const struct example {
     enum subject subject;
     uint32_t number;
@@ -82,7 +84,7 @@ static const struct example {
     {AS_WHOLE, 7, "10000002 20010001"},
     {AS_PART, 7, "10000003 20030001 20030002"},
     {AS_PATH, 9, "40000001"},
-    {AS_PATH, 5, "40100002 52001001"},
+    {AS_PATH, 5, "40100002 53001001"},
     {AS_PATH, 5, "40100002 50001002"},
     {AS_PATH, 9, "40200002 50001001"},
     {AS_FIRSTS, 7, "70000002 80000001"},
@@ -106,9 +108,16 @@ static const struct example {
     {AS_CUT, 0, HALTED "; 0 1 0"},
     {AS_ASKED, 0, STOPPED_DOOR "; " P "; b0300004 c0000010 c0000021 c0000032"},
     {AS_ASKED, 14, "10000002 20040002; " P "; " CALL_WORDS},
+    {AS_PATH, 0, BUT},
+    {AS_PATH, 0, "40100002 52001001"},
+    {AS_PATH, 0, "40100002 52fff000"},
+    {AS_PATH, 5, "40100002 52001002"},
+    {AS_PATH, 9, "40200002 52001001"},
+    {AS_ASKED, 0, STOPPED_DOOR "; " BUT "; " CALL_WORDS},
+    {AS_ASKED, 5, STOPPED_DOOR "; 40100002 52000fff; " CALL_WORDS},
 };
 
-/* Files that the damaged ones are made of, with and without stopped nodes. */
+/* Files that the damaged ones are made of, with and without stopped nodes and labels outside a range. */
 static const struct example seeds[] = {
     {AS_PART, 0, "10000005 20030001 30050002 20010003 30050002"},
     {AS_PART, 0, "1a000009 20040000 30000000 30000001 3fff0000 20070007 37ff0007 3800ffff 2005ffff"},
@@ -116,6 +125,7 @@ static const struct example seeds[] = {
     {AS_WHOLE, 0, "1f000007 20040000 20070002 30010000 30010002 30020003 20050003"},
     {AS_PATH, 0, P},
     {AS_PATH, 0, "40200006 51000007 60000000 60000002 50fff000 60000001"},
+    {AS_PATH, 0, "40300007 52009008 52fff000 60000002 60000003 51000003 60000001"},
     {AS_CALLS, 0, CALL_WORDS},
     {AS_FIRSTS, 0, FIRST_0 "; " FIRST_1},
     {AS_FIRSTS, 0, "72100003 80000000 80010005; 70100007 80000007 90000000 a0000051 a0000071 90000001 a0000001; 73100001"},
@@ -123,7 +133,7 @@ static const struct example seeds[] = {
     {AS_SECONDS, 0, "d5f00004 e0000001 e0000003 e000ffff; d0f00003 e0000000 e0000002; dff00001"},
     {AS_CUT, 0, HALTED "; 0 1 0"},
     {AS_ASKED, 0, "10000005 20030001 30050002 20010003 30050002; " P "; " CALL_WORDS},
-    {AS_ASKED, 0, "10000003 20070001 20040002; " P "; b0300003 c0000010 c0000033"},
+    {AS_ASKED, 0, "10000003 20070001 20040002; " BUT "; b0300003 c0000010 c0000033"},
 };
 
 static void copy(struct sample *to, const struct sample *from)
@@ -301,19 +311,36 @@ static void fill_path(struct sample *s, uint32_t n, uint32_t label, size_t label
 
 static void test_paths(void)
 {
+    static const uint32_t labels[] = {0x50fff000, 0x52fff000};
     static struct sample s;
     fill_path(&s, 0, 0x60000000, 1, 0x60000003, MOWQACHI_PATH_WORDS - 2);
     expect(&s, 0);
     fill_path(&s, 0, 0x60000000, 1, 0x60000003, MOWQACHI_PATH_WORDS - 1);
     expect(&s, 2);
-    fill_path(&s, 15, 0x50fff000, 15, 0x60000002, 14);
-    expect(&s, 0);
-    fill_path(&s, 0, 0x50fff000, 16, 0x60000002, 15);
-    expect(&s, 9);
+    for (int k = 0; k < 2; k++) {
+        fill_path(&s, 15, labels[k], 15, 0x60000002, 14);
+        expect(&s, 0);
+        fill_path(&s, 0, labels[k], 16, 0x60000002, 15);
+        expect(&s, 9);
+    }
     fill_path(&s, 0, 0x60000000, 16, 0x60000001, 15);
     expect(&s, 0);
     fill_path(&s, 0, 0x60000000, 17, 0x60000001, 16);
     expect(&s, 9);
+}
+
+/* A label word of every sort, with ends in the middle and at the limits, in order and not. */
+static void test_sorts(void)
+{
+    static const uint32_t ends[4] = {0, 7, 8, 4095};
+    static struct sample s;
+    for (uint32_t sort = 0; sort < 16; sort++)
+        for (int h = 0; h < 4; h++)
+            for (int l = 0; l < 4; l++) {
+                bool group = ends[h] == 0 && ends[l] < 8;
+                fill_path(&s, 1, 0x50000000 + (sort << 24) + (ends[h] << 12) + ends[l], 1, 0, 0);
+                expect(&s, (sort == 1 ? group : sort <= 2 && l <= h) ? 0 : 5);
+            }
 }
 
 static void must_be(const char *what, size_t expected, size_t got)
@@ -428,6 +455,7 @@ int main(int argc, char **argv)
     test_sizes();
     test_bundles();
     test_paths();
+    test_sorts();
     test_dear_reply(8, 0, 3875);
     test_dear_reply(9, MOWQACHI_RESULT, 0);
     test_long_list(14, 0, 4096);

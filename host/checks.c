@@ -59,17 +59,23 @@ static struct verdict check_part_word(const struct seen *seen, uint32_t w)
     return fault(5, "neither a node nor an edge word");
 }
 
+static struct verdict check_label(uint32_t w)
+{
+    switch (sort_of(w)) {
+    case RANGE: return low_of(w) <= high_of(w) ? fine : fault(5, "the range's low end is above its high end");
+    case GROUP: return bits(w, 23, 3) == 0 ? fine : fault(5, "a bit of 23..3 is set in a group word");
+    case OUTSIDE: return low_of(w) <= high_of(w) ? fine : fault(5, "the low end of the range left out is above its high end");
+    default: return fault(5, "no such sort of label word");
+    }
+}
+
 static struct verdict check_expression(uint32_t w)
 {
+    if (kind_of(w) == LABEL)
+        return check_label(w);
     if (kind_of(w) == OPERATOR)
         return bits(w, 27, 2) == 0 ? fine : fault(5, "a bit of 27..2 is set in an operator word");
-    if (kind_of(w) != LABEL)
-        return fault(5, "neither a label nor an operator word");
-    if (sort_of(w) == 0)
-        return low_of(w) <= high_of(w) ? fine : fault(5, "the range's low end is above its high end");
-    if (sort_of(w) == 1)
-        return bits(w, 23, 3) == 0 ? fine : fault(5, "a bit of 23..3 is set in a group word");
-    return fault(5, "no such sort of label word");
+    return fault(5, "neither a label nor an operator word");
 }
 
 static struct verdict check_path_word(const struct seen *seen, uint32_t w)

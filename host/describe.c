@@ -26,13 +26,14 @@ static void print_label(uint32_t w, unsigned state)
 {
     unsigned low, high;
     printf("%-12s state %u, ", "label", state);
-    if (sort_of(w) == 0) {
-        printf("range %u to %u", low_of(w), high_of(w));
-    } else if (sort_of(w) == 1) {
+    switch (sort_of(w)) {
+    case RANGE: printf("range %u to %u", low_of(w), high_of(w)); break;
+    case GROUP:
         group_ends(group_of(w), &low, &high);
         printf("group %u, %u to %u", group_of(w), low, high);
-    } else {
-        printf("sort %u", sort_of(w));
+        break;
+    case OUTSIDE: printf("outside %u to %u%s", low_of(w), high_of(w), holds_none(w) ? ", no label" : ""); break;
+    default: printf("sort %u", sort_of(w)); break;
     }
 }
 
@@ -130,12 +131,15 @@ static size_t operand_words(struct span path, size_t i)
 
 static void print_label_set(uint32_t w)
 {
-    if (sort_of(w) == 1)
+    const char *but = sort_of(w) == OUTSIDE ? "outside " : "";
+    if (sort_of(w) == GROUP)
         printf("group %u", group_of(w));
+    else if (holds_none(w))
+        printf("no label");
     else if (low_of(w) == high_of(w))
-        printf("%u", low_of(w));
+        printf("%s%u", but, low_of(w));
     else
-        printf("%u to %u", low_of(w), high_of(w));
+        printf("%s%u to %u", but, low_of(w), high_of(w));
 }
 
 static void print_operand(struct span path, size_t i, bool bare);

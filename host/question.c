@@ -1,5 +1,6 @@
-/* Questions from end to end, as a host asks them: document 01's whole W, cut at 0, 1, 0, and its path P; then plants with a stopped node. Each
-   site and the hub are played in turn; the joined list must be the old search's. Prints every file that goes over a line. */
+/* Questions from end to end, as a host asks them: document 01's whole W, cut at 0, 1, 0, and its path P; then plants with a stopped node, and
+   paths of labels outside a range. Each site and the hub are played in turn; the joined list must be the old search's. Prints every file that
+   goes over a line. */
 #include <inttypes.h>
 #include <stdio.h>
 #include <stdlib.h>
@@ -19,6 +20,7 @@ static struct file whole, path, parts[SITES], firsts[SITES], calls, seconds[SITE
 static const uint8_t cuts[] = {0, 1, 0};
 static uint8_t work[MOWQACHI_WORK_BYTES];
 
+#define W {0x10000007, 0x20030001, 0x30050002, 0x20000002, 0x30060003, 0x20000003, 0x30050002}
 #define HALTED {0x10000007, 0x20030001, 0x30050002, 0x20000002, 0x30060003, 0x20040003, 0x30050002}
 #define P {0x40300007, 0x50005005, 0x50006006, 0x50005005, 0x60000001, 0x60000003, 0x60000001}
 
@@ -27,11 +29,15 @@ static const struct question {
     size_t nodes;       /* bytes of the cut list */
     uint32_t whole[7], path[7];
 } questions[] = {
-    {"document 01: 5 then (6 then 5)*", 3, {0x10000007, 0x20030001, 0x30050002, 0x20000002, 0x30060003, 0x20000003, 0x30050002}, P},
+    {"document 01: 5 then (6 then 5)*", 3, W, P},
     {"node 3 stopped: 5 then (6 then 5)*", 3, HALTED, P},
     {"node 3 stopped: 5 then 6, which ends there", 3, HALTED, {0x40200004, 0x50005005, 0x50006006, 0x60000001}},
     {"node 3 stopped: 5 then 6 then 5, through it", 3, HALTED, {0x40300006, 0x50005005, 0x50006006, 0x60000001, 0x50005005, 0x60000001}},
     {"the root stopped: the empty word", 1, {0x10000002, 0x20070001}, {0x40000002, 0x60000000}},
+    {"any link but 6, then (any but 5, any but 6)*: as document 01's path", 3, W,
+     {0x40300007, 0x52006006, 0x52005005, 0x52006006, 0x60000001, 0x60000003, 0x60000001}},
+    {"any number of links but 6", 3, W, {0x40100003, 0x52006006, 0x60000003}},
+    {"any number of links but 0 to 4095, of which there are none", 3, W, {0x40100003, 0x52fff000, 0x60000003}},
 };
 
 /* Words that begin with a header, which tells how many there are. */

@@ -66,12 +66,12 @@ static void fill_outside(struct draft *f)
     end_file(f, 0, 0x10000000);
 }
 
-/* 64 words and 15 labels: full ranges and an empty word that all wait, then operators, then stars. */
+/* 64 words and 15 labels: full ranges, all labels but 4095 by turns, and an empty word, which all wait, then operators, then stars. */
 static void fill_path(struct draft *f, uint32_t operator)
 {
     f->len = 4;
     for (int i = 0; i < MOWQACHI_PATH_LABELS; i++)
-        put(f, 0x50fff000);
+        put(f, i % 2 == 0 ? 0x50fff000 : 0x52ffffff);
     put(f, 0x60000000);
     for (int i = 0; i < MOWQACHI_PATH_LABELS; i++)
         put(f, operator);

@@ -4,15 +4,14 @@
    stopped COUNT: so many parts, and so many wholes. */
 #include <stdio.h>
 #include <stdlib.h>
-#include <string.h>
 
-#include "calls.h"
-#include "drafts.h"
+#include "plants.h"
 
-enum { SITES = 3, MOST_NODES = 8, FURTHER = 2, LABELS = 2 };
-enum { DOOR_BIT = 0x10000, ROOT_BIT = 0x20000, STOPPED_BIT = 0x40000 };
+static const uint32_t labels[] = {0, 1};
+enum { LABELS = sizeof labels / sizeof *labels };
 
-/* Over labels 0 and 1: the empty word, 0 then 1, (0 or 1)*, 0 then (1 then 0)*, any three links, any even number of links. */
+/* Over these labels: the empty word, 0 then 1, (0 or 1)*, 0 then (1 then 0)*, any three links, any even number of links, (any but 0, then any
+   but 1)*. */
 static const uint32_t paths[][7] = {
     {0x40000002, 0x60000000},
     {0x40200004, 0x50000000, 0x50001001, 0x60000001},
@@ -20,87 +19,15 @@ static const uint32_t paths[][7] = {
     {0x40300007, 0x50000000, 0x50001001, 0x50000000, 0x60000001, 0x60000003, 0x60000001},
     {0x40300006, 0x50fff000, 0x50fff000, 0x60000001, 0x50fff000, 0x60000001},
     {0x40200005, 0x50fff000, 0x50fff000, 0x60000001, 0x60000003},
+    {0x40200005, 0x52000000, 0x52001001, 0x60000001, 0x60000003},
 };
 
-static const struct span none = {NULL, 0};
 static const struct nodes nobody;
-
-/* What is asked about: a part or a whole, its root and its stopped nodes, and a path. */
-static struct draft plant, path;
-static uint32_t root;
-static struct nodes stopped;
-
-static void print_draft(const char *name, const struct draft *d)
-{
-    printf("%s:", name);
-    for (size_t i = 0; i < words_of(span_of(d)); i++)
-        printf(" %08x", (unsigned)word_at(span_of(d), i));
-    printf("\n");
-}
-
-static _Noreturn void fail(const char *what)
-{
-    printf("%s\n", what);
-    print_draft("part", &plant);
-    print_draft("path", &path);
-    exit(1);
-}
-
-static bool equal(const struct draft *a, const struct draft *b)
-{
-    return a->len == b->len && memcmp(a->bytes, b->bytes, a->len) == 0;
-}
-
-static void must_be(const char *what, struct draft expected, struct draft got)
-{
-    if (equal(&expected, &got))
-        return;
-    print_draft("expected", &expected);
-    print_draft("written", &got);
-    fail(what);
-}
-
-/* Appends what a call writes. None of these calls has anything to refuse. */
-static void append(struct draft *to, enum call name, const struct draft *x, struct span y, struct span z, uint32_t site)
-{
-    struct asked asked = {name, {span_of(x), y, z}, site};
-    struct span found;
-    if (call(&asked, &found) != MOWQACHI_ACCEPTED)
-        fail(call_names[name]);
-    memcpy(to->bytes + to->len, found.bytes, found.len);
-    to->len += found.len;
-}
-
-static struct draft written(enum call name, const struct draft *x, struct span y, struct span z)
-{
-    struct draft d = {.len = 0};
-    append(&d, name, x, y, z, 0);
-    return d;
-}
 
 /* The header without its length. */
 static uint32_t header_of(const struct draft *d)
 {
     return word_at(span_of(d), 0) & 0xffffc000u;
-}
-
-/* A third of the nodes are stopped, roots, doors and others alike. A whole has a root, and its links end within. */
-static void draw_plant(bool whole)
-{
-    uint32_t nodes = 1 + draw(MOST_NODES), targets = nodes + (whole ? 0 : FURTHER);
-    root = draw(nodes + (whole ? 0 : 1));
-    stopped = nobody;
-    plant.len = 4;
-    for (uint32_t x = 0; x < nodes; x++) {
-        bool stop = draw(3) == 0;
-        put(&plant, 0x20000000 + (stop ? STOPPED_BIT : 0) + (x == root ? ROOT_BIT + DOOR_BIT : draw(2) * DOOR_BIT) + x);
-        if (stop)
-            add_node(&stopped, x);
-        for (uint32_t link = 0; link < LABELS * targets; link++)
-            if (draw(4) == 0)
-                put(&plant, 0x30000000 + (link / targets << 16) + link % targets);
-    }
-    end_file(&plant, 0, 0x10000000);
 }
 
 static void draw_path(void)
@@ -177,7 +104,7 @@ static struct draft with_doors(const struct draft *reply)
 
 static void check_part(void)
 {
-    draw_plant(false);
+    draw_plant(false, labels, LABELS);
     draw_path();
     struct draft rest = without_stopped(), calls = draw_calls();
     struct draft reply = written(FIRST_REPLY, &rest, span_of(&path), none);
@@ -186,41 +113,23 @@ static void check_part(void)
             written(SECOND_REPLY, &plant, span_of(&path), span_of(&calls)));
 }
 
-/* The joined list, from the cut parts. */
-static struct draft joined(const struct draft parts[SITES])
-{
-    struct draft firsts = {.len = 0}, seconds = {.len = 0};
-    for (int s = 0; s < SITES; s++)
-        append(&firsts, FIRST_REPLY, &parts[s], span_of(&path), none, 0);
-    struct draft calls = written(CALL_LIST, &firsts, none, none);
-    for (int s = 0; s < SITES; s++)
-        append(&seconds, SECOND_REPLY, &parts[s], span_of(&path), span_of(&calls), 0);
-    return written(JOIN, &seconds, none, none);
-}
-
 /* Each site's part. Stopped nodes or not, the doors are the same. */
 static void cut_plant(struct draft parts[SITES])
 {
+    static struct draft plain[SITES];
     struct draft running = marked(&plant, &nobody);
-    uint8_t cuts[MOST_NODES];
-    size_t nodes = 0;
-    for (size_t i = 1; i < words_of(span_of(&plant)); i++)
-        if (kind_of(word_at(span_of(&plant), i)) == NODE)
-            cuts[nodes++] = (uint8_t)draw(SITES);
-    for (uint32_t s = 0; s < SITES; s++) {
-        struct draft plain = {.len = 0};
-        parts[s].len = 0;
-        append(&parts[s], CUT, &plant, (struct span){cuts, nodes}, none, s);
-        append(&plain, CUT, &running, (struct span){cuts, nodes}, none, s);
-        must_be("part", marked(&plain, &stopped), parts[s]);
-    }
+    struct span cuts = draw_cuts();
+    cut_up(&plant, cuts, parts);
+    cut_up(&running, cuts, plain);
+    for (int s = 0; s < SITES; s++)
+        must_be("part", marked(&plain[s], &stopped), parts[s]);
 }
 
 static void check_whole(void)
 {
     static struct draft parts[SITES];
     struct draft expected = {.len = 4};
-    draw_plant(true);
+    draw_plant(true, labels, LABELS);
     draw_path();
     end_file(&expected, 0, 0xf0000000);
     if (!has_node(&stopped, root)) {
@@ -229,7 +138,7 @@ static void check_whole(void)
     }
     must_be("old search", expected, written(OLD_SEARCH, &plant, span_of(&path), none));
     cut_plant(parts);
-    must_be("joined list", expected, joined(parts));
+    must_be("joined list", expected, joined(parts, span_of(&path)));
 }
 
 int main(int argc, char **argv)

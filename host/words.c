@@ -2,6 +2,8 @@
 
 #include <string.h>
 
+#include "mowqachi.h"
+
 size_t words_of(struct span s)
 {
     return s.len / 4;
@@ -39,8 +41,8 @@ bool stopped_bit(uint32_t node) { return bits(node, 18, 18); }
 bool door_root(uint32_t door) { return bits(door, 16, 16); }
 unsigned label_of(uint32_t edge) { return bits(edge, 27, 16); }
 unsigned sort_of(uint32_t label) { return bits(label, 27, 24); }
-unsigned low_of(uint32_t range) { return bits(range, 11, 0); }
-unsigned high_of(uint32_t range) { return bits(range, 23, 12); }
+unsigned low_of(uint32_t label) { return bits(label, 11, 0); }
+unsigned high_of(uint32_t label) { return bits(label, 23, 12); }
 unsigned group_of(uint32_t group) { return bits(group, 2, 0); }
 unsigned operator_of(uint32_t w) { return bits(w, 1, 0); }
 unsigned pair_node(uint32_t w) { return bits(w, 19, 4); }
@@ -50,6 +52,11 @@ unsigned operands_of(uint32_t expression)
 {
     static const unsigned taken[] = {0, 2, 2, 1};
     return kind_of(expression) == OPERATOR ? taken[operator_of(expression)] : 0;
+}
+
+bool holds_none(uint32_t label)
+{
+    return sort_of(label) == OUTSIDE && low_of(label) == 0 && high_of(label) == MOWQACHI_LABELS - 1;
 }
 
 void group_ends(unsigned group, unsigned *low, unsigned *high)

@@ -1,4 +1,4 @@
-/* The words and fields of document 01's files, with the stopped bit of document 02's request 7. */
+/* The words and fields of document 01's files, with document 02's labels outside a range (request 1) and its stopped bit (request 7). */
 #ifndef WORDS_H
 #define WORDS_H
 
@@ -10,6 +10,9 @@ enum kind {
     PART = 0x1, NODE = 0x2, EDGE = 0x3, PATH = 0x4, LABEL = 0x5, OPERATOR = 0x6, FIRST = 0x7, DOOR = 0x8,
     ROW = 0x9, REACH = 0xa, CALLS = 0xb, CALL = 0xc, SECOND = 0xd, ANSWER = 0xe, LIST = 0xf
 };
+
+/* The sorts of label words. */
+enum sort { RANGE = 0, GROUP = 1, OUTSIDE = 2 };
 
 /* A stretch of bytes. Its words are the whole fours of it. */
 struct span {
@@ -40,14 +43,16 @@ bool stopped_bit(uint32_t node);
 bool door_root(uint32_t door);
 unsigned label_of(uint32_t edge);
 unsigned sort_of(uint32_t label);
-unsigned low_of(uint32_t range);
-unsigned high_of(uint32_t range);
+unsigned low_of(uint32_t label);  /* of a range, or of the range that an outside word leaves out */
+unsigned high_of(uint32_t label);
 unsigned group_of(uint32_t group);
 unsigned operator_of(uint32_t w);
 unsigned operands_of(uint32_t expression);
 unsigned pair_node(uint32_t w);   /* of a reach or call word */
 unsigned state_of(uint32_t w);    /* of a row, reach or call word */
 
+/* An outside word that leaves out every label. */
+bool holds_none(uint32_t label);
 void group_ends(unsigned group, unsigned *low, unsigned *high);
 
 void add_node(struct nodes *set, unsigned x);

@@ -1,5 +1,5 @@
 /* The split link search, for a C11 or C++ host. docs/CALLS.md tells which call belongs where, docs/FORMATS.md what every file, trip and
-   number is: document 01, and of document 02 request 7, stopped nodes.
+   number is: document 01, and of document 02 the requests 1, labels outside a range, and 7, stopped nodes.
 
    Buffers. A length is in bytes. Any alignment will do. Inputs are only read, and may overlap one another. The output and the working
    buffer overlap nothing: neither each other nor an input. A pointer is never null: where a length is 0, pass the address of any object.
@@ -13,6 +13,10 @@
    then at its end 5, 7, 8, 9. A cut list has only 11, and so has the site asked, after it. In a bundle 2, then file by file as above,
    then over all files 12, 7, 13, 14. A call list by itself, then 12 against the path and 14 against the part. The first check that fails
    gives the number.
+
+   Labels outside a range. A path's label word of sort 2 (bits 27..24) has a range's fields, the high end in 23..12 and the low end in 11..0,
+   and holds the labels below the low end and those above the high one: any label but 5 is 0x52005005. The low end is not above the high one.
+   Sorts 3 to 15 are refused.
 
    Stopped nodes. Bit 18 of a node word says that the node is stopped; bits 27..19 are zero. No walk starts at a stopped node or enters one.
    The host sets and clears the bit in its parts and wholes. */

@@ -41,6 +41,7 @@ impl Plant {
 
     fn change_path(&mut self, draws: &mut Draws) {
         let (a, b) = (self.label(draws), self.label(draws));
+        let word = if draws.below(4) == 0 { outside } else { range };
         let i = 1 + draws.below(self.path.len() as u32 - 1) as usize;
         match self.path[i] {
             THEN => self.path[i] = OR,
@@ -49,7 +50,7 @@ impl Plant {
                 self.path.remove(i);
             }
             _ if draws.below(3) == 0 => self.path.insert(i + 1, STAR),
-            _ => self.path[i] = range(a.min(b), a.max(b)),
+            _ => self.path[i] = word(a.min(b), a.max(b)),
         }
     }
 

@@ -49,6 +49,7 @@ pub fn old_search() -> Vec<Shape> {
         shape("three random links, every eighth stopped", |n| {
             search(parts::stopped(parts::random(n, 3, Doors::Root)), paths::half_ranges())
         }),
+        shape("three random links, labels outside ranges", |n| search(parts::random(n, 3, Doors::Root), paths::outside_halves())),
     ]
 }
 
@@ -82,6 +83,7 @@ pub fn first_reply() -> Vec<Shape> {
         shape("one link outside a door, a row each, every eighth stopped", |n| {
             search(parts::stopped(parts::doorways(n)), paths::any_label())
         }),
+        shape("two random links, all doors, labels outside ranges", |n| search(parts::random(n, 2, Doors::All), paths::outside_halves())),
     ]
 }
 
@@ -103,22 +105,27 @@ fn called(part: Vec<u32>, path: Vec<u32>, calls: Vec<u32>) -> Ask {
     Ask { calls: bytes(&calls), ..search(part, path) }
 }
 
-fn all_called(part: Vec<u32>, size: usize) -> Ask {
+fn all_called(part: Vec<u32>, path: Vec<u32>, size: usize) -> Ask {
     let calls = parts::calls(&parts::nodes(&part), 15, size);
-    called(part, paths::half_ranges(), calls)
+    called(part, path, calls)
 }
 
 pub fn second_reply() -> Vec<Shape> {
     vec![
         shape("targets outside descending", |n| called(parts::outward(n), paths::last_label(), parts::calls(&[0], 15, n))),
-        shape("three random links, all called", |n| all_called(parts::random(n, 3, Doors::All), n)),
+        shape("three random links, all called", |n| all_called(parts::random(n, 3, Doors::All), paths::half_ranges(), n)),
         shape("states one by one", |n| called(parts::one_by_one(n, Doors::All), paths::one_by_one(), parts::call_of(0, 2))),
         shape("no link, calls elsewhere", |n| {
             let part = parts::bare(n, Doors::All);
             let odd: Vec<u32> = parts::nodes(&part).iter().map(|x| x + 1).collect();
             called(part, paths::full_ranges(), parts::calls(&odd, 15, n))
         }),
-        shape("three random links, all called, every eighth stopped", |n| all_called(parts::stopped(parts::random(n, 3, Doors::All)), n)),
+        shape("three random links, all called, every eighth stopped", |n| {
+            all_called(parts::stopped(parts::random(n, 3, Doors::All)), paths::half_ranges(), n)
+        }),
+        shape("three random links, all called, labels outside ranges", |n| {
+            all_called(parts::random(n, 3, Doors::All), paths::outside_halves(), n)
+        }),
     ]
 }
 

@@ -39,13 +39,21 @@ pub fn turns() -> Vec<u32> {
     ws
 }
 
-/// A star of an or of fifteen ranges of half the labels.
-pub fn half_ranges() -> Vec<u32> {
+/// A star of an or of fifteen label words, each with a range of half the labels.
+fn halves(word: fn(u32, u32) -> u32) -> Vec<u32> {
     let mut draws = Draws(7);
     star_of_or((0..15).map(|_| {
         let low = draws.below(2048);
-        range(low, low + 2047)
+        word(low, low + 2047)
     }))
+}
+
+pub fn half_ranges() -> Vec<u32> {
+    halves(range)
+}
+
+pub fn outside_halves() -> Vec<u32> {
+    halves(outside)
 }
 
 /// A star of an or of fifteen times the one label that no link of `parts::outward` has.

@@ -8,8 +8,10 @@ pub struct Automaton {
     /// What may follow each state.
     pub follow: [u16; 16],
     pub accepts: u16,
-    /// The labels that each state is entered by, from state 1 on.
+    /// The range of each state's label word, from state 1 on.
     pub ends: Vec<(u32, u32)>,
+    /// The states whose label word holds the labels outside its range.
+    pub outside: u16,
 }
 
 impl Automaton {
@@ -19,7 +21,8 @@ impl Automaton {
 
     /// The states that a label enters.
     pub fn mask(&self, label: u32) -> u16 {
-        self.ends.iter().enumerate().fold(0, |m, (i, &(low, high))| m | ((low <= label && label <= high) as u16) << (i + 1))
+        let inside = |m, (i, &(low, high)): (usize, &(u32, u32))| m | ((low <= label && label <= high) as u16) << (i + 1);
+        self.ends.iter().enumerate().fold(0, inside) ^ self.outside
     }
 
     pub fn follow_all(&self, mut set: u16) -> u16 {
@@ -43,11 +46,11 @@ fn link(follow: &mut [u16; 16], ends: u16, begins: u16) {
     (0..16).filter(|q| ends >> q & 1 == 1).for_each(|q| follow[q] |= begins);
 }
 
-/// The ends of a label word.
+/// The ends of a label word's range.
 fn letter(w: u32) -> Result<(u32, u32), u32> {
     let (high, low) = (w >> 12 & 0xfff, w & 0xfff);
-    match w >> 24 & 15 {
-        0 => unless(5, low <= high).map(|_| (low, high)),
+    match sort(w) {
+        0 | 2 => unless(5, low <= high).map(|_| (low, high)),
         1 => unless(5, w & 0x00ff_fff8 == 0).map(|_| GROUPS[(w & 7) as usize]),
         _ => Err(5),
     }
@@ -76,13 +79,14 @@ fn operate(op: u32, stack: &mut Vec<Operand>, follow: &mut [u16; 16]) -> Result<
 
 pub fn path(bytes: &[u8]) -> Result<Automaton, u32> {
     let ws = file(bytes, 64, 4, 0x0f00_0000)?;
-    let (mut stack, mut follow, mut ends) = (Vec::with_capacity(17), [0; 16], Vec::with_capacity(16));
+    let (mut stack, mut follow, mut ends, mut outside) = (Vec::with_capacity(17), [0; 16], Vec::with_capacity(16), 0);
     for &w in &ws[1..] {
         match kind(w) {
             5 => {
                 ends.push(letter(w)?);
                 // a sixteenth label is refused at the end
                 let only = 1u16.checked_shl(ends.len() as u32).unwrap_or(0);
+                outside |= if sort(w) == 2 { only } else { 0 };
                 stack.push(Operand { null: false, begins: only, ends: only });
             }
             6 => {
@@ -95,5 +99,5 @@ pub fn path(bytes: &[u8]) -> Result<Automaton, u32> {
     }
     unless(9, stack.len() == 1 && ends.len() == labels(ws[0]) as usize)?;
     follow[0] = stack[0].begins;
-    Ok(Automaton { follow, accepts: stack[0].ends | stack[0].null as u16, ends })
+    Ok(Automaton { follow, accepts: stack[0].ends | stack[0].null as u16, ends, outside })
 }

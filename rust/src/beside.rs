@@ -3,6 +3,7 @@
 use crate::calls;
 use crate::evaluation::words::*;
 use crate::evaluation::{self, Outcome, Room};
+use crate::mistakes::mistaken;
 use crate::random::Random;
 
 #[derive(Clone, Debug)]
@@ -57,24 +58,28 @@ impl Call {
         }
     }
 
-    /// The call with those of its stopped nodes running that are among the given node words, if there are any.
-    fn running(&self, among: impl Fn(u32) -> bool) -> Option<Call> {
+    /// The call with its plant's and path's words taken for others, if any of them is.
+    fn mistaken(&self, taken: fn(u32) -> u32) -> Option<Call> {
         let mut call = self.clone();
-        let file = match &mut call {
-            Call::OldSearch { whole: file, .. } | Call::Cut { whole: file, .. } => file,
-            Call::FirstReply { part: file, .. } | Call::SecondReply { part: file, .. } => file,
-            Call::CallList { .. } | Call::Join { .. } => return None,
+        let files = match &mut call {
+            Call::OldSearch { whole, path } => vec![whole, path],
+            Call::Cut { whole, .. } => vec![whole],
+            Call::FirstReply { part, path } | Call::SecondReply { part, path, .. } => vec![part, path],
+            Call::CallList { .. } | Call::Join { .. } => vec![],
         };
-        let mut words = words_of(file, FILE_LIMIT).ok()?;
-        let taken = |word: &u32| kind(*word) == NODE && bits(*word, 18, 18) == 1 && among(*word);
-        let count = words.iter_mut().filter(|word| taken(word)).map(|word| *word ^= 1 << 18).count();
-        *file = bytes_of(&words);
-        (count > 0).then_some(call)
+        let mut changed = false;
+        for file in files {
+            if let Some(others) = mistaken(&words_of(file, FILE_LIMIT).ok()?, taken) {
+                *file = bytes_of(&others);
+                changed = true;
+            }
+        }
+        changed.then_some(call)
     }
 
-    /// Whether an accepted call would have another outcome if these of its stopped nodes were running.
-    pub fn stopped_matter(&self, room: Room, outcome: &Outcome, among: impl Fn(u32) -> bool) -> bool {
-        outcome.is_ok() && self.running(among).map_or(false, |call| call.evaluate(room) != *outcome)
+    /// Whether a program that makes this mistake would give another outcome of an accepted call.
+    pub fn finds_out(&self, room: Room, outcome: &Outcome, taken: fn(u32) -> u32) -> bool {
+        outcome.is_ok() && self.mistaken(taken).map_or(false, |call| call.evaluate(room) != *outcome)
     }
 
     fn make(&self, given: &[Guarded], out: &mut [u8], work: &mut [u8]) -> u32 {

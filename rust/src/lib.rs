@@ -3,4 +3,5 @@ pub mod beside;
 pub mod calls;
 pub mod evaluation;
 pub mod generate;
+pub mod mistakes;
 pub mod random;

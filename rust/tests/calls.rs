@@ -1,10 +1,9 @@
 //! Random and damaged inputs for every call, by the library and by the evaluation; every check of document 01 must have refused some, and
-//! stopped nodes of each sort must have changed some outcomes.
+//! every mistake in reading stopped nodes and labels outside a range must have been found out by some.
 
-use mowqachi_tests::beside::Call;
-use mowqachi_tests::evaluation::words::*;
-use mowqachi_tests::evaluation::{Outcome, Room};
+use mowqachi_tests::evaluation::words::Refusal;
 use mowqachi_tests::generate::calls::{call, room};
+use mowqachi_tests::mistakes::{Mistake, OUTSIDE, STOPPED};
 use mowqachi_tests::random::{cases, seed, Naming, Random};
 use std::collections::BTreeMap;
 
@@ -29,6 +28,7 @@ const PATH: Checks = &[
     (5, "neither label nor operator"),
     (5, "low end above high"),
     (5, "group zero bit"),
+    (5, "outside: low end above high"),
     (5, "label sort"),
     (5, "operator zero bit"),
     (9, "operand missing"),
@@ -75,34 +75,35 @@ const SECOND: Checks = &[(5, "no answer word"), (5, "answer zero bit"), (6, "ans
 const ROOM: Checks = &[(1, "output short"), (1, "working buffer short")];
 const RESULT: Checks = &[(15, "over its limit")];
 
-/// Stopped nodes, by root and door bit.
-const STOPPED: [(&str, u32); 3] =
-    [("stopped root matters", 3), ("stopped door matters", 1), ("stopped inner node matters", 0)];
+/// Inputs, each with the lists of its checks.
+type Inputs<'a> = &'a [(&'static str, &'a [Checks])];
 
-/// Where a call that ignores that nodes are stopped would be found out.
-fn ignored(call: &Call, room: Room, outcome: &Outcome) -> Vec<String> {
-    let matters = |marks: u32| call.stopped_matter(room, outcome, |word| bits(word, 17, 16) == marks);
-    STOPPED.iter().filter(|(_, marks)| matters(*marks)).map(|(what, _)| what.to_string()).collect()
+/// The mistakes in reading these inputs.
+fn mistakes(inputs: Inputs) -> Vec<Mistake> {
+    let has = |names: &[&str]| inputs.iter().any(|(input, _)| names.contains(input));
+    let nodes = STOPPED.into_iter().filter(|_| has(&["part", "whole"]));
+    let labels = OUTSIDE.into_iter().filter(|_| has(&["path"]));
+    nodes.chain(labels).collect()
 }
 
 fn named(refusal: Option<&Refusal>) -> String {
     refusal.map_or("accepted".to_string(), |r| format!("{} {}: {}", r.number, r.input, r.why))
 }
 
-/// What must be met at least once: acceptance, each check of each input, stopped nodes where an input has nodes.
-fn owed(inputs: &[(&'static str, &[Checks])]) -> BTreeMap<String, u64> {
+/// What must be met at least once: acceptance, each check of each input, each mistake in reading them.
+fn owed(inputs: Inputs) -> BTreeMap<String, u64> {
     let checks = inputs.iter().flat_map(|(input, lists)| {
         let list = lists.iter().flat_map(|list| list.iter());
         list.map(|(number, why)| named(Some(&Refusal { number: *number, input, why })))
     });
-    let nodes = inputs.iter().any(|(input, _)| ["part", "whole"].contains(input));
-    let stopped = STOPPED.iter().filter(|_| nodes).map(|(what, _)| what.to_string());
-    checks.chain(stopped).chain([named(None)]).map(|what| (what, 0)).collect()
+    let mistakes = mistakes(inputs).into_iter().map(|(what, _)| what.to_string());
+    checks.chain(mistakes).chain([named(None)]).map(|what| (what, 0)).collect()
 }
 
 /// Makes this share of the cases, and goes on for a while if something has not been met.
-fn run(name: &'static str, inputs: &[(&'static str, &[Checks])]) {
+fn run(name: &'static str, inputs: Inputs) {
     let mut seen = owed(&[&[("buffers", &[ROOM][..])], inputs].concat());
+    let mistakes = mistakes(inputs);
     let wanted = cases() * 12 / 100;
     let most = wanted + 50_000;
     let mut made = 0;
@@ -112,7 +113,9 @@ fn run(name: &'static str, inputs: &[(&'static str, &[Checks])]) {
         let call = call(&mut random, name);
         let room = room(&mut random, &call);
         let outcome = call.check(&mut random, room);
-        for what in [vec![named(outcome.as_ref().err())], ignored(&call, room, &outcome)].concat() {
+        let found_out = mistakes.iter().filter(|(_, taken)| call.finds_out(room, &outcome, *taken));
+        let found_out = found_out.map(|(what, _)| what.to_string());
+        for what in found_out.chain([named(outcome.as_ref().err())]) {
             let count = seen.get_mut(&what);
             *count.unwrap_or_else(|| panic!("{name} refused by a check it has not: {outcome:?}")) += 1;
         }

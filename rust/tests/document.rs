@@ -1,4 +1,5 @@
-//! Every example of document 01, and stopped nodes in the same files, by the library and by the evaluation.
+//! Every example of document 01, stopped nodes in the same files and labels outside a range in the same paths, by the library and by the
+//! evaluation.
 
 use mowqachi_tests::beside::{answer, Call};
 use mowqachi_tests::evaluation::words::bytes_of;
@@ -10,6 +11,8 @@ const W: &str = "10000007 20030001 30050002 20000002 30060003 20000003 30050002"
 const ROOT_STOPPED: &str = "10000007 20070001 30050002 20000002 30060003 20000003 30050002";
 const STOPPED: &str = "10000007 20030001 30050002 20000002 30060003 20040003 30050002";
 const P: &str = "40300007 50005005 50006006 50005005 60000001 60000003 60000001";
+/// P with 5 said as all labels but 6, and 6 as all but 5: on W's labels the same.
+const P_OUTSIDE: &str = "40300007 52006006 52005005 52006006 60000001 60000003 60000001";
 /// 5 then 6 then 5.
 const Q: &str = "40300006 50005005 50006006 60000001 50005005 60000001";
 const ONE_LABEL: &str = "40100002 50005005";
@@ -76,13 +79,18 @@ fn over_a_part(part: &str) -> Vec<Call> {
     ]
 }
 
+/// Every call that reads a path, with this one, and a call list for n 1.
+fn over_a_path(path: &str) -> Vec<Call> {
+    vec![old_search(W, path), first_reply("10000001", path), second_reply("10000001", path, "b0100001")]
+}
+
 fn all_calls() -> Vec<Call> {
     let mut calls = over_a_part("10000002 20030001");
     calls.extend([call_list("70000002 80010001"), join("d0000001")]);
     calls
 }
 
-/// The files of a question with path P over the cut 0, 1, 0, by site.
+/// The files of a question over the cut 0, 1, 0, by site.
 struct Files {
     whole: &'static str,
     parts: [&'static str; 2],
@@ -92,22 +100,22 @@ struct Files {
     list: &'static str,
 }
 
-fn made_one_by_one(files: &Files) {
+fn made_one_by_one(files: &Files, path: &str) {
     for site in 0..2 {
         gives(cut(files.whole, &[0, 1, 0], site as u32), files.parts[site]);
-        gives(first_reply(files.parts[site], P), files.firsts[site]);
-        gives(second_reply(files.parts[site], P, files.calls), files.seconds[site]);
+        gives(first_reply(files.parts[site], path), files.firsts[site]);
+        gives(second_reply(files.parts[site], path, files.calls), files.seconds[site]);
     }
     for (first, second) in [(0, 1), (1, 0)] {
         gives(call_list(&format!("{} {}", files.firsts[first], files.firsts[second])), files.calls);
         gives(join(&format!("{} {}", files.seconds[first], files.seconds[second])), files.list);
     }
-    gives(old_search(files.whole, P), files.list);
+    gives(old_search(files.whole, path), files.list);
 }
 
 #[test]
 fn end_to_end() {
-    made_one_by_one(&Files {
+    let files = Files {
         whole: W,
         parts: ["10000005 20030001 30050002 20010003 30050002", "11000003 20010002 30060003"],
         firsts: [
@@ -117,12 +125,13 @@ fn end_to_end() {
         calls: "b0300005 c0000010 c0000021 c0000023 c0000032",
         seconds: ["d0300001", "d1300002 e0000002"],
         list: "f0000002 e0000002",
-    });
+    };
+    [P, P_OUTSIDE].into_iter().for_each(|path| made_one_by_one(&files, path));
 }
 
 #[test]
 fn end_to_end_with_a_stopped_door() {
-    made_one_by_one(&Files {
+    let files = Files {
         whole: STOPPED,
         parts: ["10000005 20030001 30050002 20050003 30050002", "11000003 20010002 30060003"],
         firsts: [
@@ -132,7 +141,8 @@ fn end_to_end_with_a_stopped_door() {
         calls: "b0300004 c0000010 c0000021 c0000032",
         seconds: ["d0300001", "d1300002 e0000002"],
         list: "f0000002 e0000002",
-    });
+    };
+    [P, P_OUTSIDE].into_iter().for_each(|path| made_one_by_one(&files, path));
 }
 
 #[test]
@@ -193,9 +203,7 @@ fn rows_3_to_8() {
 #[test]
 fn row_9_paths() {
     for path in ["40000002 60000003", "40000001", "40000003 60000000 60000000"] {
-        refuses(old_search(W, path), 9);
-        refuses(first_reply("10000001", path), 9);
-        refuses(second_reply("10000001", path, "b0000001"), 9);
+        over_a_path(path).into_iter().for_each(|call| refuses(call, 9));
     }
 }
 
@@ -233,6 +241,8 @@ fn path(n: u32, words: &[u32]) -> Vec<u8> {
 }
 
 const FULL: u32 = 0x50ff_f000;
+/// Outside 1 to 4095.
+const ONLY_0: u32 = 0x52ff_f001;
 const EMPTY: u32 = 0x6000_0000;
 const THEN: u32 = 0x6000_0001;
 const OR: u32 = 0x6000_0002;
@@ -247,11 +257,13 @@ fn or_of(label: u32, count: usize) -> Vec<u32> {
 
 #[test]
 fn row_15_sizes() {
-    let star = [or_of(FULL, 15), vec![STAR]].concat();
-    let reply = |targets| Call::FirstReply { part: dear_part(targets), path: path(15, &star) };
-    refuses(reply(9), 15);
-    let (number, words) = made(&reply(8));
-    assert_eq!((number, words.len(), words[0]), (0, 3875, 0x70f0_0000 | 3875));
+    for label in [FULL, ONLY_0] {
+        let star = [or_of(label, 15), vec![STAR]].concat();
+        let reply = |targets| Call::FirstReply { part: dear_part(targets), path: path(15, &star) };
+        refuses(reply(9), 15);
+        let (number, words) = made(&reply(8));
+        assert_eq!((number, words.len(), words[0]), (0, 3875, 0x70f0_0000 | 3875));
+    }
 }
 
 /// One door with links to `targets` targets outside, and `stopped` doors that are stopped.
@@ -301,33 +313,65 @@ fn path_edges() {
     let stars = |count| path(0, &[vec![EMPTY], vec![STAR; count]].concat());
     gives(search(stars(62)), "f0000002 e0000001");
     refuses(search(stars(63)), 2);
-    gives(search(path(15, &or_of(FULL, 15))), "f0000001");
-    refuses(search(path(15, &or_of(FULL, 16))), 9);
-    refuses(search(path(0, &or_of(FULL, 16))), 9);
+    for label in [FULL, ONLY_0] {
+        gives(search(path(15, &or_of(label, 15))), "f0000001");
+        refuses(search(path(14, &or_of(label, 15))), 9);
+        refuses(search(path(15, &or_of(label, 16))), 9);
+        refuses(search(path(0, &or_of(label, 16))), 9);
+    }
     gives(search(bytes(EMPTY_WORD)), "f0000002 e0000001");
     gives(old_search(W, EMPTY_WORD), "f0000002 e0000001");
-    let waiting = |count| path(0, &[vec![EMPTY; count], vec![THEN; count - 1]].concat());
-    gives(search(waiting(16)), "f0000002 e0000001");
-    refuses(search(waiting(17)), 9);
+    let waiting = |before: usize, last| [vec![EMPTY; before], vec![last], vec![THEN; before]].concat();
+    for (n, last, list) in [(0, EMPTY, "f0000002 e0000001"), (1, FULL, "f0000001"), (1, ONLY_0, "f0000001")] {
+        gives(search(path(n, &waiting(15, last))), list);
+        refuses(search(path(n, &waiting(16, last))), 9);
+    }
+}
+
+/// Whether a path of this one label word leads over a link with this label, by each call that reads paths.
+fn crosses(word: u32, label: u32, held: bool) {
+    let link = 0x3000_0002 | label << 16;
+    let whole = bytes_of(&[0x1000_0004, 0x2003_0001, link, 0x2000_0002]);
+    let part = bytes_of(&[0x1000_0003, 0x2003_0001, link]);
+    let (path, calls) = (path(1, &[word]), bytes("b0100002 c0000010"));
+    let given = |over, none| if held { over } else { none };
+    let list = given("f0000002 e0000002", "f0000001");
+    gives(Call::OldSearch { whole: whole.clone(), path: path.clone() }, list);
+    let reply = given("70100004 80010001 90000000 a0000021", "70100002 80010001");
+    gives(Call::FirstReply { part, path: path.clone() }, reply);
+    gives(Call::SecondReply { part: whole, path, calls }, given("d0100002 e0000002", "d0100001"));
 }
 
 #[test]
-fn groups_and_ranges_at_their_ends() {
+fn label_words_at_their_ends() {
     let groups = "0-4095 0-1023 0-255 1024-1535 1536-1791 1792-2047 2048-3071 4032-4095";
-    for (group, ends) in groups.split(' ').enumerate() {
-        let ends: Vec<i32> = ends.split('-').map(|end| end.parse().expect(end)).collect();
-        for label in
-            [ends[0] - 1, ends[0], ends[1], ends[1] + 1].into_iter().filter(|l| (0..4096).contains(l))
-        {
-            let whole =
-                bytes_of(&[0x1000_0004, 0x2003_0001, 0x3000_0002 | (label as u32) << 16, 0x2000_0002]);
-            let inside = ends[0] <= label && label <= ends[1];
-            let list = if inside { "f0000002 e0000002" } else { "f0000001" };
-            let range = 0x5000_0000 | (ends[1] << 12) as u32 | ends[0] as u32;
-            for word in [0x5100_0000 | group as u32, range] {
-                gives(Call::OldSearch { whole: whole.clone(), path: path(1, &[word]) }, list);
-            }
+    let others = "0-0 7-7 4095-4095 0-7 7-4095 1-4095 0-4094 1-4094 7-8";
+    for (at, ends) in groups.split(' ').chain(others.split(' ')).enumerate() {
+        let ends: Vec<u32> = ends.split('-').map(|end| end.parse().expect(end)).collect();
+        let (low, high) = (ends[0], ends[1]);
+        let [range, outside] = [0x5000_0000, 0x5200_0000].map(|sort| sort | high << 12 | low);
+        let group = (at < 8).then_some(0x5100_0000 | at as u32);
+        for label in [low.wrapping_sub(1), low, high, high + 1].into_iter().filter(|label| *label < 4096) {
+            let inside = low <= label && label <= high;
+            group.into_iter().chain([range]).for_each(|word| crosses(word, label, inside));
+            crosses(outside, label, !inside);
         }
+    }
+}
+
+#[test]
+fn sorts_of_labels() {
+    let gets = |sort: u32, fields: u32, number: u32| {
+        let path = format!("40100002 {:08x}", 0x5000_0000 | sort << 24 | fields);
+        over_a_path(&path).iter().for_each(|call| assert_eq!(made(call).0, number, "{path}"));
+    };
+    let (right, wrong) = ([0, 0xff_f000, 0xff_ffff, 0x00_5005, 0x00_2001], [0x00_0001, 0x00_1002, 0xff_efff]);
+    for sort in [0, 2] {
+        right.into_iter().for_each(|ends| gets(sort, ends, 0));
+        wrong.into_iter().for_each(|ends| gets(sort, ends, 5));
+    }
+    for sort in 3..16 {
+        right.into_iter().chain(wrong).for_each(|fields| gets(sort, fields, 5));
     }
 }
 
@@ -382,6 +426,28 @@ fn walks_go_on_through_doors() {
 fn a_star_needs_no_turn() {
     let whole = "10000006 20030001 30050002 20000002 30060003 20000003";
     lists(whole, P, "f0000002 e0000002");
+}
+
+#[test]
+fn labels_outside_a_range() {
+    let (root, two, all) =
+        ("f0000002 e0000001", "f0000003 e0000001 e0000002", "f0000004 e0000001 e0000002 e0000003");
+    for (word, list) in [
+        ("52004004", all),
+        ("52005005", root),
+        ("52006006", two),
+        ("52007007", all),
+        ("52006005", root),
+        ("52004000", all),
+        ("52005000", root),
+        ("52fff006", two),
+        ("52fff007", all),
+        ("52fff000", root),
+    ] {
+        lists(W, &format!("40100003 {word} 60000003"), list);
+    }
+    // all but 6, by the two ranges that say the same
+    lists(W, "40200005 50005000 50fff007 60000002 60000003", two);
 }
 
 #[test]

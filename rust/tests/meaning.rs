@@ -1,10 +1,11 @@
-//! The evaluation's own meaning of an expression, by three methods that must agree.
+//! The evaluation's own meaning of label words and expressions, by methods that must agree.
 
 use mowqachi_tests::evaluation::meaning::{listed_by_flow, listed_by_relation};
 use mowqachi_tests::evaluation::path::{read_path, Expression, Path};
 use mowqachi_tests::evaluation::states::States;
 use mowqachi_tests::evaluation::words::bytes_of;
-use mowqachi_tests::generate::path::{alphabet, path};
+use mowqachi_tests::generate::path::{alphabet, label_word, or_of, path};
+use mowqachi_tests::mistakes::{found_out, OUTSIDE};
 use mowqachi_tests::random::{cases, seed, Random};
 use std::collections::BTreeSet;
 
@@ -76,14 +77,36 @@ fn chain(word: &[u32]) -> Vec<Vec<(u32, usize)>> {
     word.iter().enumerate().map(link).chain([vec![]]).collect()
 }
 
+/// The labels of a range, and those outside it, by the word's digits; document.rs has the groups.
+#[test]
+fn labels() {
+    for case in 0..cases() / 20 {
+        let mut random = Random::new(seed(), "labels", case);
+        let alphabet = alphabet(&mut random);
+        let word = label_word(&mut random, &alphabet);
+        let digits = format!("{word:08x}");
+        let [low, high] = [5..8, 2..5].map(|at| u32::from_str_radix(&digits[at], 16).expect("digits"));
+        let owed: Vec<u32> = match &digits[..2] {
+            "50" => (low..=high).collect(),
+            "52" => (0..low).chain(high + 1..4096).collect(),
+            _ => continue,
+        };
+        let path = read_path(&bytes_of(&or_of(word, 1, false))).expect("a path");
+        let held: Vec<u32> = (0..4096).filter(|label| path.label(1).holds(*label)).collect();
+        assert_eq!(held, owed, "{word:x}");
+    }
+}
+
+/// Goes on for a while if a mistake in reading labels has not been found out.
 #[test]
 fn words() {
-    let mut members = 0;
-    for case in 0..cases() * 7 / 100 {
+    let (mut members, mut found, mut case, wanted) = (0, BTreeSet::new(), 0, cases() * 7 / 100);
+    while case < wanted || case < wanted + 10_000 && found.len() < OUTSIDE.len() {
         let mut random = Random::new(seed(), "words", case);
         let alphabet = alphabet(&mut random);
         let operands = random.between(1, 6);
-        let path = read_path(&bytes_of(&path(&mut random, &alphabet, operands))).expect("a path");
+        let words = path(&mut random, &alphabet, operands);
+        let path = read_path(&bytes_of(&words)).expect("a path");
         let states = States::of(&path);
         for length in 0..6 {
             let word: Vec<u32> = (0..length).map(|_| random.pick(&alphabet)).collect();
@@ -92,9 +115,12 @@ fn words() {
             assert_eq!(word_by_states(&path, &states, &word), member, "{path:?} {word:?}");
             let listed = listed_by_relation(&path, &chain(&word), 0);
             assert_eq!(listed.contains(&length), member, "{path:?} {word:?}");
+            found.extend(found_out(&words, &member, |path| word_by_derivatives(path, &word)));
         }
+        case += 1;
     }
     assert!(members > cases() / 20, "too few words belong: {members}");
+    assert_eq!(found.len(), OUTSIDE.len(), "only these mistakes are found out: {found:?}");
 }
 
 #[test]

@@ -9,6 +9,7 @@ use mowqachi_tests::evaluation::states::States;
 use mowqachi_tests::evaluation::words::*;
 use mowqachi_tests::generate::plant::node;
 use mowqachi_tests::generate::question::{question, Question};
+use mowqachi_tests::mistakes::{found_out, OUTSIDE};
 use mowqachi_tests::random::{cases, seed, Naming, Random};
 use std::collections::{BTreeMap, BTreeSet};
 
@@ -176,7 +177,7 @@ fn ignored(plant: &Plant, path: &Path, calls: &[u32], list: &[u32]) -> Vec<&'sta
     found
 }
 
-/// Runs one question to its end, and notes what of `IGNORED` it holds.
+/// Runs one question to its end, and notes what of `IGNORED` it holds and which mistakes its list finds out.
 fn ask(
     random: &mut Random,
     question: &Question,
@@ -196,6 +197,7 @@ fn ask(
     let list = joined.expect("honest replies join");
     check_list(random, question, &path, &list, &seconds);
     noted.extend(ignored(&question.plant, &path, &calls, &list));
+    noted.extend(found_out(&question.path, &list, |path| question.plant.search(path)));
     let crossed: BTreeSet<u32> = question.parts.iter().flat_map(Part::outside_targets).collect();
     let further = |part: &Part| part.doors().any(|door| !door.root && !crossed.contains(&door.number));
     Ok(match () {
@@ -208,8 +210,9 @@ fn ask(
 
 /// Makes this share of the cases, and goes on for a while if something has not been met.
 fn run(stream: &'static str) {
+    let mistakes = OUTSIDE.iter().map(|(what, _)| what);
     let mut seen: BTreeMap<&str, u64> =
-        ENDS.iter().chain(IGNORED.iter().flatten()).map(|what| (*what, 0)).collect();
+        ENDS.iter().chain(IGNORED.iter().flatten()).chain(mistakes).map(|what| (*what, 0)).collect();
     let wanted = cases() * 9 / 100;
     let mut made = 0;
     while made < wanted || made < wanted + 20_000 && seen.values().any(|count| *count == 0) {

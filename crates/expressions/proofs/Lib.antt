@@ -3,3 +3,4 @@ pub mod Glushkov
 pub mod Postfix
 pub mod Paths
 pub mod Examples
+pub mod Labels

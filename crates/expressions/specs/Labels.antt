@@ -1,6 +1,7 @@
--- Believed. Which labels a label word holds, and the expression of a path's words. Document 01, "Words" (groups) and "Path".
+-- Believed. Which labels a label word holds, and the expression of a path's words. Document 01, "Words" (groups) and
+-- "Path"; document 02, request 1 (sort 2).
 use Prim.Native.Nat.{ℕ, zero, suc}
-use mathlib.Core.Bool.{Bool, cond, _&&_}
+use mathlib.Core.Bool.{Bool, cond, not, _&&_}
 use mathlib.Core.List.{List, [], _∷_, map}
 use mathlib.Core.Option.{Option, none, some}
 use lib.Dec.{eqb, leb}
@@ -19,10 +20,17 @@ groupHigh g = getD (4095 ∷ 1023 ∷ 255 ∷ 1535 ∷ 1791 ∷ 2047 ∷ 3071 �
 abbrev pub between : ℕ → ℕ → ℕ → Bool
 between low high a = leb low a && leb a high
 
--- the label word l holds the label a
+abbrev pub inRange : ℕ → ℕ → Bool
+inRange l a = between (lowOf l) (highOf l) a
+
+abbrev pub inGroup : ℕ → ℕ → Bool
+inGroup g a = between (groupLow g) (groupHigh g) a
+
+-- the label word l holds the label a: sort 0 a range, sort 2 all labels outside it, sort 1 a group
 abbrev pub holds : ℕ → ℕ → Bool
 holds l a =
-    cond (eqb (sortOf l) 0) (between (lowOf l) (highOf l) a) (between (groupLow (groupOf l)) (groupHigh (groupOf l)) a)
+    cond (eqb (sortOf l) 0) (inRange l a)
+    (cond (eqb (sortOf l) 2) (not (inRange l a)) (inGroup (groupOf l) a))
 
 abbrev pub operatorItem : ℕ → Item
 operatorItem zero = put-empty

@@ -7,7 +7,7 @@ use native.Mathlib.Omega.{arith}
 use lib.Dec.{eqb}
 use borrow.Author.Tests.{eq-eqb, ne-eqb, eqb-true}
 use Rattle.files.specs.declared.expr.Label.{Label}
-use Rattle.files.specs.declared.expr.Label.the-variants.{Range, Group}
+use Rattle.files.specs.declared.expr.Label.the-variants.{Range, Group, Outside}
 use Rattle.files.specs.declared.expr.ExprWord.{ExprWord}
 use Rattle.files.specs.declared.expr.ExprWord.the-variants as variants
 use Rattle.files.specs.Path.{isLabel, sortOf, lowOf, highOf, groupOf, operatorOf}
@@ -17,8 +17,12 @@ use Rattle.files.specs.Expr.{exprCheck, labelAt, exprAt}
 pub label-range : (w : ℕ) {k a b : ℕ} → k ≡ sortOf w → k ≡ 0 → a ≡ lowOf w → b ≡ highOf w → Range a b ≡ labelAt w
 label-range w e z f g = rw (eq-eqb (sortOf w) 0 (sym e ∙ z), f, g)
 
-pub label-group : (w : ℕ) {k a : ℕ} → k ≡ sortOf w → (k ≡ 0 → ⊥) → a ≡ groupOf w → Group a ≡ labelAt w
-label-group w e z f = rw (ne-eqb (sortOf w) 0 (λ q. z (e ∙ q)), f)
+module _ (w : ℕ) {k : ℕ} (e : k ≡ sortOf w) (z : k ≡ 0 → ⊥) where
+  pub label-outside : {a b : ℕ} → k ≡ 2 → a ≡ lowOf w → b ≡ highOf w → Outside a b ≡ labelAt w
+  label-outside y f g = rw (ne-eqb (sortOf w) 0 (λ q. z (e ∙ q)), eq-eqb (sortOf w) 2 (sym e ∙ y), f, g)
+
+  pub label-group : {a : ℕ} → (k ≡ 2 → ⊥) → a ≡ groupOf w → Group a ≡ labelAt w
+  label-group y f = rw (ne-eqb (sortOf w) 0 (λ q. z (e ∙ q)), ne-eqb (sortOf w) 2 (λ q. y (e ∙ q)), f)
 
 module _ (w : ℕ) {n : ℕ} (e : n ≡ exprCheck w) where
   pub expr-wrong : (n ≡ 0 → ⊥) → variants.Wrong ≡ exprAt w

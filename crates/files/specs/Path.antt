@@ -1,6 +1,6 @@
--- Believed. A path: an expression in postfix, at most 64 words with the header. Document 01, "Path".
+-- Believed. A path: an expression in postfix, at most 64 words with the header. Document 01, "Path"; document 02, request 1 (sort 2).
 use Prim.Native.Nat.{ℕ, suc, _+_, _-_, _*_, _^_}
-use mathlib.Core.Bool.{Bool, true, false, cond, _&&_}
+use mathlib.Core.Bool.{Bool, true, false, cond, _&&_, _||_}
 use mathlib.Core.List.{List, [], _∷_}
 use lib.Dec.{eqb, leb}
 use lib.ListN.{length, getD}
@@ -28,6 +28,10 @@ lowOf w = bits 11 0 w
 abbrev pub groupOf : ℕ → ℕ
 groupOf w = bits 2 0 w
 
+-- a range, or the labels outside one
+abbrev pub hasEnds : ℕ → Bool
+hasEnds w = eqb (sortOf w) 0 || eqb (sortOf w) 2
+
 -- 0 empty word, 1 then, 2 or, 3 star
 abbrev pub operatorOf : ℕ → ℕ
 operatorOf w = bits 1 0 w
@@ -38,12 +42,15 @@ rangeWord low high = wordOf 5 (high * 2 ^ 12 + low)
 abbrev pub groupWord : ℕ → ℕ
 groupWord group = wordOf 5 (2 ^ 24 + group)
 
+abbrev pub outsideWord : ℕ → ℕ → ℕ
+outsideWord low high = wordOf 5 (2 * 2 ^ 24 + high * 2 ^ 12 + low)
+
 abbrev pub operatorWord : ℕ → ℕ
 operatorWord op = wordOf 6 op
 
 abbrev pub labelCheck : ℕ → ℕ
 labelCheck w =
-    cond (eqb (sortOf w) 0) (5 unless leb (lowOf w) (highOf w)) (5 unless (eqb (sortOf w) 1 && eqb (bits 23 3 w) 0))
+    cond (hasEnds w) (5 unless leb (lowOf w) (highOf w)) (5 unless (eqb (sortOf w) 1 && eqb (bits 23 3 w) 0))
 
 abbrev pub operatorCheck : ℕ → ℕ
 operatorCheck w = 5 unless (eqb (kindOf w) 6 && eqb (bits 27 2 w) 0)

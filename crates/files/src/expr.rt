@@ -1,4 +1,4 @@
-// An expression word: a label of one of two sorts, or an operator.
+// An expression word: a label of one of three sorts, or an operator.
 use crate::field::kind;
 use crate::refuse::choose;
 use crate::refuse::refuse;
@@ -7,13 +7,14 @@ ghost use mathlib.Core.Bool.{_&&_};
 ghost use lib.Dec.{eqb, leb};
 ghost use Rattle.files.specs.Field.{bits};
 ghost use Rattle.files.specs.Refuse.{_unless_};
-ghost use Rattle.files.specs.Path.{isLabel, sortOf, lowOf, highOf, groupOf, operatorOf, labelCheck, operatorCheck};
+ghost use Rattle.files.specs.Path.{isLabel, sortOf, hasEnds, lowOf, highOf, groupOf, operatorOf, labelCheck, operatorCheck};
 ghost use Rattle.files.specs.Expr.{exprCheck, labelAt, exprAt};
 
-// The labels that a label word holds: those of a range, its low and its high end, or those of a group.
+// The labels that a label word holds: those of a range, its low and its high end; those of a group; or those outside a range.
 pub enum Label {
     Range(u32, u32),
     Group(u32),
+    Outside(u32, u32),
 }
 
 // 0 empty word, 1 then, 2 or, 3 star; wrong, where the word is no expression word.
@@ -33,6 +34,13 @@ fn sort(w: u32) -> u32
     ensures { λ r. ⌜ r ≡ sortOf w ⌝ }
 {
     w / 0x0100_0000 % 16
+}
+
+fn has_ends(w: u32) -> bool
+    ensures { λ r. ⌜ r ≡ hasEnds w ⌝ }
+{
+    let k = sort(w);
+    (k == 0) | (k == 2)
 }
 
 fn low(w: u32) -> u32
@@ -74,7 +82,7 @@ fn check_group(w: u32) -> u32
 fn check_label(w: u32) -> u32
     ensures { λ r. ⌜ r ≡ labelCheck w ⌝ }
 {
-    choose(sort(w) == 0, check_range(w), check_group(w))
+    choose(has_ends(w), check_range(w), check_group(w))
 }
 
 fn check_operator(w: u32) -> u32
@@ -92,8 +100,11 @@ fn check_expr(w: u32) -> u32
 fn read_label(w: u32) -> Label
     ensures { λ r. ⌜ r ≡ labelAt w ⌝ }
 {
-    if sort(w) == 0 {
+    let k = sort(w);
+    if k == 0 {
         Label::Range(low(w), high(w))
+    } else if k == 2 {
+        Label::Outside(low(w), high(w))
     } else {
         Label::Group(group(w))
     }

@@ -4,7 +4,7 @@ ghost use mathlib.Core.Path.{_≡_};
 ghost use mathlib.Core.Bool.{cond};
 ghost use Prim.Native.Nat.{_<_, _≤_};
 ghost use Rattle.files.specs.Field.{headerWord, nodeWord, edgeWord, doorWord, rowWord, wordOf, pair, answerWord};
-ghost use Rattle.files.specs.Path.{rangeWord, groupWord, operatorWord};
+ghost use Rattle.files.specs.Path.{rangeWord, groupWord, outsideWord, operatorWord};
 
 // The header of a file of `size` words, itself included.
 pub fn header(kind: u32, site: u32, n: u32, size: u32) -> u32
@@ -47,6 +47,13 @@ pub fn group_word(group: u32) -> u32
     ensures { λ r. ⌜ r ≡ groupWord group ⌝ }
 {
     0x5000_0000 + (0x100_0000 + group)
+}
+
+pub fn outside_word(low: u32, high: u32) -> u32
+    requires { ⌜ (low < 4096) × (high < 4096) ⌝ }
+    ensures { λ r. ⌜ r ≡ outsideWord low high ⌝ }
+{
+    0x5000_0000 + (0x200_0000 + high * 0x1000 + low)
 }
 
 pub fn operator_word(op: u32) -> u32

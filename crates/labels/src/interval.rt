@@ -1,11 +1,16 @@
-// The labels of a position, from a low to a high end.
+// The labels of a position: those of an interval, from a low to a high end, or those outside.
 ghost use mathlib.Core.Path.{_≡_};
-ghost use Rattle.labels.specs.Interval.{within, groupInterval, intervalOf};
+ghost use Rattle.labels.specs.Interval.{within, groupInterval, labelSet};
 use files::expr::Label;
 
 pub struct Interval {
     pub low: u32,
     pub high: u32,
+}
+
+pub struct LabelSet {
+    pub interval: Interval,
+    pub outside: bool,
 }
 
 // The groups' ends, low to high.
@@ -34,12 +39,22 @@ fn group(g: u32) -> Interval
     }
 }
 
-// The ends of what a label word holds: a search sees no groups.
-pub fn resolve(l: Label) -> Interval
-    ensures { λ r. ⌜ r ≡ intervalOf l ⌝ }
+// What a label word holds: a search sees no groups.
+pub fn resolve(l: Label) -> LabelSet
+    ensures { λ r. ⌜ r ≡ labelSet l ⌝ }
 {
     match l {
-        Label::Range(low, high) => Interval { low, high },
-        Label::Group(g) => group(g),
+        Label::Range(low, high) => LabelSet {
+            interval: Interval { low, high },
+            outside: false,
+        },
+        Label::Group(g) => LabelSet {
+            interval: group(g),
+            outside: false,
+        },
+        Label::Outside(low, high) => LabelSet {
+            interval: Interval { low, high },
+            outside: true,
+        },
     }
 }

@@ -1,2 +1,2 @@
-// Which labels a label word of a path holds, as a low and a high end.
+// Which labels a label word of a path holds: those of an interval, or those outside.
 pub mod interval;

@@ -21,14 +21,14 @@ use Rattle.paths.specs.declared.builder.Builder.{Builder}
 use Rattle.expressions.specs.Expr.{Expr, letters, count}
 use Rattle.expressions.specs.Positions.{nullable, first, last, follow, next, accepts, labelWord}
 use Rattle.expressions.specs.Labels.{between, holds}
-use Rattle.labels.specs.Interval.{within, intervalOf}
+use Rattle.labels.specs.Interval.{contains, labelSet}
 use Rattle.paths.specs.Operand.{fragmentIn, tableIn}
-use Rattle.paths.specs.Letters.{intervalAt, reads, Labelled}
+use Rattle.paths.specs.Letters.{labelsAt, reads, Labelled}
 use Rattle.paths.specs.Builder.{stackIn, fragmentsIn, followIn}
 use Rattle.paths.specs.Automaton.{readsIn, Finishes}
 use Rattle.expressions.proofs.Ranges.{last-within, follow-within, length-letters}
 use Rattle.expressions.specs.Fragments.{Fragment, Construction, compute, constructionOf, fragmentOf, link}
-use Rattle.labels.proofs.Intervals.{holds-within}
+use Rattle.labels.proofs.Intervals.{holds-contains}
 use Rattle.paths.proofs.Operands.{has-more}
 
 -- ---- after the last word
@@ -70,15 +70,15 @@ accepts-is e (suc q) = rw (has-pow 0 (suc q), eqb·suc-zero q, and-false, or-fal
 reading-is : (e : Expr) (l : Letters) → Labelled l (letters e) → (label p : ℕ) → reads l label p ≡ readsIn e label p
 reading-is e l k label p = rw (k .has p, length-letters e) (go p)
   where
-    go : (p : ℕ) → (between 1 (count e) p && within (intervalAt l p) label) ≡ (between 1 (count e) p && holds (labelWord e p) label)
+    go : (p : ℕ) → (between 1 (count e) p && contains (labelsAt l p) label) ≡ (between 1 (count e) p && holds (labelWord e p) label)
     go zero = refl
     go (suc p) = elim (either (between 1 (count e) (suc p))) [ inl y ↦ rw y (at (passed y)) | inr n ↦ rw n ]
       where
-        at : T (between 1 (count e) (suc p)) → within (intervalAt l (suc p)) label ≡ holds (getD (letters e) p 0) label
+        at : T (between 1 (count e) (suc p)) → contains (labelsAt l (suc p)) label ≡ holds (getD (letters e) p 0) label
         at t =
             let y = simp (and-iff, le-iff) at t in
-            let i : intervalAt l (suc p) ≡ intervalOf (labelAt (getD (letters e) p 0)) = rw add-one at (k .interval p (omega (arith, length-letters e))) in
-            ap (λ x. within x label) i ∙ holds-within (getD (letters e) p 0) label
+            let i : labelsAt l (suc p) ≡ labelSet (labelAt (getD (letters e) p 0)) = rw add-one at (k .labels p (omega (arith, length-letters e))) in
+            ap (λ x. contains x label) i ∙ holds-contains (getD (letters e) p 0) label
 
 pub finish-is : (b : Builder) {whole : Operand} (t : List ℕ) {u : ℕ}
     → tableIn t ≡ link (tableIn (b .rows)) (fragmentIn (record { null = false; begins = 0; ends = 1 })) (fragmentIn whole)

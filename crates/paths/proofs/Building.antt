@@ -16,14 +16,14 @@ use Rattle.files.specs.declared.expr.ExprWord.{ExprWord}
 use Rattle.files.specs.declared.expr.ExprWord.the-variants as variants
 use Rattle.files.specs.declared.expr.Label.{Label}
 use Rattle.files.proofs.Exprs.{label-told, operator-told}
-use Rattle.labels.specs.declared.interval.Interval.{Interval}
+use Rattle.labels.specs.declared.interval.LabelSet.{LabelSet}
 use Rattle.paths.specs.declared.letters.Letters.{Letters}
 use Rattle.paths.specs.declared.operand.Operand.{Operand}
 use Rattle.paths.specs.declared.builder.Builder.{Builder}
 use Rattle.expressions.specs.Postfix.{Item, put-empty, put-letter, make-then, make-or, make-star}
 use Rattle.expressions.specs.Labels.{operatorItem, item}
 use Rattle.expressions.specs.Fragments.{emptyFragment, letterFragment, thenFragment, orFragment, starFragment, link, compute}
-use Rattle.labels.specs.Interval.{intervalOf}
+use Rattle.labels.specs.Interval.{labelSet}
 use Rattle.paths.specs.Operand.{fragmentIn, tableIn}
 use Rattle.paths.specs.Letters.{AddedLabel, Labelled}
 use Rattle.paths.specs.Builder.{stackIn, fragmentsIn, followIn, Starts, Replaced, operandsOf, lettersOf, Applicable, Does}
@@ -107,13 +107,13 @@ pub star-does : {b r : Builder} {o x : Operand} (t : List ℕ) → Replaced b (b
     → Does make-star b (record { operands = r .operands; waiting = r .waiting; rows = t; letters = r .letters })
 star-does {b} t p e k f h = done make-star t refl refl p (λ is ws. rw (k, e, f, top (b .operands) (b .waiting) (h .enough)))
 
-pub label-does : {b r : Builder} {ls : Letters} {i : Interval} {l : Label} {o : Operand} → AddedLabel (b .letters) i ls → i ≡ intervalOf l
+pub label-does : {b r : Builder} {ls : Letters} {s : LabelSet} {l : Label} {o : Operand} → AddedLabel (b .letters) s ls → s ≡ labelSet l
     → Replaced b (b .waiting) o r → fragmentIn o ≡ letterFragment (ls .n) → b .letters .n + 1 ≤ 15
     → (w : ℕ) → l ≡ labelAt w → Does (put-letter w) b (record { operands = r .operands; waiting = r .waiting; rows = r .rows; letters = ls })
 label-does {b} {r} {ls} a f p e h w g =
     record {
       computes = λ is ws n. rw (p .fragments, p .rows, e, a .count, n);
-      letters = λ ws k. labelled-more w a k (f ∙ ap intervalOf g) (omega arith);
+      letters = λ ws k. labelled-more w a k (f ∙ ap labelSet g) (omega arith);
       waiting = omega (arith, p .waiting);
       sized = p .sized;
     }

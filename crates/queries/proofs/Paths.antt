@@ -24,7 +24,7 @@ use Rattle.files.specs.Word.{words}
 use Rattle.files.specs.Field.{bits, kindOf, labelsOf}
 use Rattle.files.specs.Read.{readAt}
 use Rattle.files.specs.Refuse.{_then_, _unless_}
-use Rattle.files.specs.Path.{isLabel, sortOf, lowOf, highOf, takes, waits, mostWaiting, wordCheck, endCheck, scan, bodyCheck}
+use Rattle.files.specs.Path.{isLabel, sortOf, hasEnds, lowOf, highOf, takes, waits, mostWaiting, wordCheck, endCheck, scan, bodyCheck}
 use Rattle.files.specs.Expr.{exprCheck, exprAt}
 use Rattle.files.proofs.Checks.{checks, passed-first, refused-first}
 use Rattle.files.proofs.Exprs.{expr-wrong, label-told, operator-told, wrong-told}
@@ -67,7 +67,7 @@ expr-five : (w : ℕ) → (exprCheck w ≡ 0 → ⊥) → exprCheck w ≡ 5
 expr-five w n =
     ⊎-elim (λ e. absurd (n e)) (λ e. e)
     (five-either (isLabel w)
-    (five-either (eqb (sortOf w) 0) (five (leb (lowOf w) (highOf w))) (five (eqb (sortOf w) 1 && eqb (bits 23 3 w) 0)))
+    (five-either (hasEnds w) (five (leb (lowOf w) (highOf w))) (five (eqb (sortOf w) 1 && eqb (bits 23 3 w) 0)))
     (five (eqb (kindOf w) 6 && eqb (bits 27 2 w) 0)))
 
 -- a word by its case e, for the proofs of `takes` and `check_word`

@@ -1,13 +1,13 @@
 -- The laws of a set of states, for any number of digits w: what `hasState` says of the operations on bits.
 use mathlib.Core.Path.{_≡_, refl, sym, ap, _∙_}
 use mathlib.Core.Logic.{_⊎_, inl, inr, ⊎-elim}
-use mathlib.Core.Bool.{true, false, not, _&&_, _||_, and-true, true≢false}
+use mathlib.Core.Bool.{Bool, true, false, cond, not, _&&_, _||_, and-true, true≢false}
 use Prim.Native.Nat.{ℕ, zero, suc, _-_, _*_, _/_, _%_, _^_, _≤_, _<_}
 use native.Mathlib.Nat.{div-one, div-div-eq-div-mul, pow-succ', mod-lt, le-of-suc-le-suc, not-suc-le-zero, zero-div, mod-eq-of-lt, div-eq-of-lt, lt-of-lt-of-le, one-mul}
 use lib.Pow.{pow-mono, pow-lt}
 use native.Mathlib.Omega.{arith}
 use lib.Dec.{eqb, eqb·zero-suc, eqb·suc-zero, eqb·suc-suc}
-use lib.Bits.{bitAnd, bitOr, and-shr, or-shr, and-mod, or-mod, and-self, and-le-r}
+use lib.Bits.{bitAnd, bitOr, bitXor, and-shr, or-shr, xor-shr, and-mod, or-mod, xor-mod, and-self, and-le-r}
 use lib.Count.{trailingZeros}
 use Rattle.sets.specs.States.{hasState}
 use Rattle.sets.specs.Tally.{one}
@@ -34,34 +34,52 @@ one-odd n = go (n % 2) (mod-lt n (omega arith))
 
 -- ---- the operations
 
-or-bit : (x y : ℕ) → x < 2 → y < 2 → eqb (bitOr x y) 1 ≡ (eqb x 1 || eqb y 1)
-or-bit zero y hx hy = refl
-or-bit (suc zero) zero hx hy = refl
-or-bit (suc zero) (suc zero) hx hy = refl
-or-bit (suc zero) (suc (suc y)) hx hy = absurd (omega arith)
-or-bit (suc (suc x)) y hx hy = absurd (omega arith)
-
-and-bit : (x y : ℕ) → x < 2 → y < 2 → eqb (bitAnd x y) 1 ≡ (eqb x 1 && eqb y 1)
-and-bit zero y hx hy = refl
-and-bit (suc zero) zero hx hy = refl
-and-bit (suc zero) (suc zero) hx hy = refl
-and-bit (suc zero) (suc (suc y)) hx hy = absurd (omega arith)
-and-bit (suc (suc x)) y hx hy = absurd (omega arith)
-
 two-pos : 0 < 2
 two-pos = omega arith
 
+-- an operation on bits, which goes digit by digit, is f on digits: so it is f on the sets
+module _ (op : ℕ → ℕ → ℕ) (f : Bool → Bool → Bool)
+    (shr : (a b k : ℕ) → op a b / 2 ^ k ≡ op (a / 2 ^ k) (b / 2 ^ k)) (low : (a b k : ℕ) → op a b % 2 ^ k ≡ op (a % 2 ^ k) (b % 2 ^ k))
+    (on : (x y : Bool) → eqb (op (one x) (one y)) 1 ≡ f x y) where
+  digit : (x y : ℕ) → x < 2 → y < 2 → eqb (op x y) 1 ≡ f (eqb x 1) (eqb y 1)
+  digit zero zero hx hy = on false false
+  digit zero (suc zero) hx hy = on false true
+  digit (suc zero) zero hx hy = on true false
+  digit (suc zero) (suc zero) hx hy = on true true
+  digit zero (suc (suc y)) hx hy = absurd (omega arith)
+  digit (suc zero) (suc (suc y)) hx hy = absurd (omega arith)
+  digit (suc (suc x)) y hx hy = absurd (omega arith)
+
+  has-op : (a b q : ℕ) → hasState (op a b) q ≡ f (hasState a q) (hasState b q)
+  unfolding hasState
+  has-op a b q = rw (shr a b q, low (a / 2 ^ q) (b / 2 ^ q) 1) (digit (a / 2 ^ q % 2) (b / 2 ^ q % 2) (mod-lt _ two-pos) (mod-lt _ two-pos))
+
 pub has-or : (a b q : ℕ) → hasState (bitOr a b) q ≡ (hasState a q || hasState b q)
-unfolding hasState
-has-or a b q =
-    rw (or-shr a b q, or-mod (a / 2 ^ q) (b / 2 ^ q) 1)
-    (or-bit (a / 2 ^ q % 2) (b / 2 ^ q % 2) (mod-lt _ two-pos) (mod-lt _ two-pos))
+has-or = has-op bitOr (λ x y. x || y) or-shr or-mod on
+  where
+    on : (x y : Bool) → eqb (bitOr (one x) (one y)) 1 ≡ (x || y)
+    on true true = refl
+    on true false = refl
+    on false true = refl
+    on false false = refl
 
 pub has-and : (a b q : ℕ) → hasState (bitAnd a b) q ≡ (hasState a q && hasState b q)
-unfolding hasState
-has-and a b q =
-    rw (and-shr a b q, and-mod (a / 2 ^ q) (b / 2 ^ q) 1)
-    (and-bit (a / 2 ^ q % 2) (b / 2 ^ q % 2) (mod-lt _ two-pos) (mod-lt _ two-pos))
+has-and = has-op bitAnd (λ x y. x && y) and-shr and-mod on
+  where
+    on : (x y : Bool) → eqb (bitAnd (one x) (one y)) 1 ≡ (x && y)
+    on true true = refl
+    on true false = refl
+    on false true = refl
+    on false false = refl
+
+pub has-xor : (a b q : ℕ) → hasState (bitXor a b) q ≡ cond (hasState b q) (not (hasState a q)) (hasState a q)
+has-xor = has-op bitXor (λ x y. cond y (not x) x) xor-shr xor-mod on
+  where
+    on : (x y : Bool) → eqb (bitXor (one x) (one y)) 1 ≡ cond y (not x) x
+    on true true = refl
+    on true false = refl
+    on false true = refl
+    on false false = refl
 
 pub has-empty : (q : ℕ) → hasState 0 q ≡ false
 unfolding hasState

@@ -1,8 +1,8 @@
 -- Stopped nodes (document 02, request 7), by computation: document 01's whole W with a node stopped, asked by both searches, and a word of each
 -- file on the way. Assumes nothing.
 use mathlib.Core.Path.{_≡_, refl}
-use mathlib.Core.List.{List, [], _∷_, _++_, map, flatten}
-use Prim.Native.Nat.{ℕ, _+_}
+use mathlib.Core.List.{List, [], _∷_, _++_, flatten}
+use Prim.Native.Nat.{ℕ}
 use lib.Dec.{lit≤}
 use lib.ListN.{drop}
 use Rattle.sets.specs.Sets.{Mem, here, there}
@@ -18,13 +18,13 @@ use Rattle.hub_calls.specs.CallList.{called, callList, callListCall}
 use Rattle.hub_join.specs.Join.{joined, joinCall}
 use Rattle.old.specs.Old.{listed, oldSearchCall}
 use Rattle.cutter.specs.Cut.{cut, cutCall}
-use Rattle.demands.specs.PlantOf.{partsOf}
-use Rattle.demands.specs.Question.{Asking, Answer, going, stopped, ask}
+use Rattle.demands.specs.Question.{ask}
 use Rattle.demands.specs.Demand.{Asked, Claim}
 use Rattle.demands.proofs.Owed.{owed}
 use Rattle.demands.proofs.Demand.{demand-3}
 use Rattle.table.specs.Table.{whole, path, part1, first1, second0, final, b}
-use Rattle.witnesses.proofs.Asked.{asked, words-by-test, exampleRoom, inTurn}
+use Rattle.witnesses.proofs.Asked.{asked, words-by-test, inTurn}
+use Rattle.witnesses.proofs.BothSearches.{none, only, BothGive, apart, together}
 use Rattle.witnesses.proofs.TwoSites.{two-small}
 
 -- W with its node 3 stopped, and with its root stopped
@@ -43,31 +43,6 @@ past3 = 0x40300006 ∷ 0x50005005 ∷ 0x50006006 ∷ 0x60000001 ∷ 0x50005005 �
 
 abbrev pub stay : List ℕ
 stay = 0x40000002 ∷ 0x60000000 ∷ []
-
--- a final list
-abbrev pub none : List ℕ
-none = 0xf0000001 ∷ []
-
-abbrev pub only : ℕ → List ℕ
-only x = 0xf0000002 ∷ (0xe0000000 + x) ∷ []
-
--- the joined list of a question that goes to its end
-abbrev pub joinedList : Asking Answer → List ℕ
-joinedList (going a) = a .final
-joinedList (stopped by k) = []
-
--- both searches give the list: the old one of the whole, the new one of the parts that the cutter makes of it
-abbrev pub BothGive : (whole cuts path list : List ℕ) → Type 0
-BothGive whole cuts path list =
-    let parts = map b (partsOf whole cuts) in
-    (oldSearchCall 32768 32768 (b whole) (b path) ≡ accepted list) × (joinedList (ask exampleRoom (b path) parts parts) ≡ b list)
-
--- the second node's site is another one, or all three are on one
-abbrev pub apart : List ℕ
-apart = 0 ∷ 1 ∷ 0 ∷ []
-
-abbrev pub together : List ℕ
-together = 0 ∷ 0 ∷ 0 ∷ []
 
 pub both-give :
     -- with no node stopped

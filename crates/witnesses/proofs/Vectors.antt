@@ -30,7 +30,7 @@ groups : (map (holds 0x51000000) (0 ∷ 4095 ∷ 4096 ∷ []) ≡ true ∷ true 
 groups = (refl, refl, refl, refl, refl, refl, refl, refl, refl)
 
 -- a path, asked of a lone header
-onPath : List ℕ → Outcome
+unfoldable pub onPath : List ℕ → Outcome
 onPath p = firstReplyCall 16384 32768 (b (0x10000001 ∷ [])) (b p)
 
 -- n label words, empty words, ors, stars
@@ -63,9 +63,9 @@ paths :
     × (onPath (0x40100004 ∷ labels 1 ++ 0x60000001 ∷ 0x60000004 ∷ []) ≡ refused 9)
     × (onPath (0x40200003 ∷ labels 2) ≡ refused 9)
     × (onPath (0x40000001 ∷ []) ≡ refused 9)
-    -- a low end above its high end, sort 2, a group's and an operator's zero bit
+    -- a low end above its high end, sort 3, a group's and an operator's zero bit
     × (onPath (0x40100002 ∷ 0x50005006 ∷ []) ≡ refused 5)
-    × (onPath (0x40100002 ∷ 0x52000000 ∷ []) ≡ refused 5)
+    × (onPath (0x40100002 ∷ 0x53000000 ∷ []) ≡ refused 5)
     × (onPath (0x40100002 ∷ 0x51000008 ∷ []) ≡ refused 5)
     × (onPath (0x40100002 ∷ 0x51000007 ∷ []) ≡ accepted (0x70100001 ∷ []))
     × (onPath (0x40000002 ∷ 0x60000004 ∷ []) ≡ refused 5)

@@ -2,10 +2,12 @@
 
 use super::words::*;
 
+/// `Outside` has all labels but those of the range.
 #[derive(Clone, Copy, PartialEq, Eq, Debug)]
 pub enum LabelWord {
     Range { low: u32, high: u32 },
     Group(u32),
+    Outside { low: u32, high: u32 },
 }
 
 const GROUPS: [(u32, u32); 8] =
@@ -13,11 +15,14 @@ const GROUPS: [(u32, u32); 8] =
 
 impl LabelWord {
     pub fn holds(&self, label: u32) -> bool {
-        let (low, high) = match *self {
-            LabelWord::Range { low, high } => (low, high),
-            LabelWord::Group(group) => GROUPS[group as usize],
-        };
-        low <= label && label <= high
+        match *self {
+            LabelWord::Range { low, high } => low <= label && label <= high,
+            LabelWord::Group(group) => {
+                let (low, high) = GROUPS[group as usize];
+                low <= label && label <= high
+            }
+            LabelWord::Outside { low, high } => label < low || high < label,
+        }
     }
 }
 
@@ -49,16 +54,14 @@ impl Path {
 }
 
 fn read_label(word: u32) -> Result<LabelWord, Refusal> {
+    let (high, low) = (bits(word, 23, 12), bits(word, 11, 0));
     match bits(word, 27, 24) {
-        0 => {
-            let (high, low) = (bits(word, 23, 12), bits(word, 11, 0));
-            if low > high {
-                return refuse(5, "low end above high");
-            }
-            Ok(LabelWord::Range { low, high })
-        }
+        0 if low > high => refuse(5, "low end above high"),
+        0 => Ok(LabelWord::Range { low, high }),
         1 if bits(word, 23, 3) != 0 => refuse(5, "group zero bit"),
         1 => Ok(LabelWord::Group(bits(word, 2, 0))),
+        2 if low > high => refuse(5, "outside: low end above high"),
+        2 => Ok(LabelWord::Outside { low, high }),
         _ => refuse(5, "label sort"),
     }
 }

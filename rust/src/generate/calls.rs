@@ -71,7 +71,7 @@ fn part_and_path(random: &mut Random, plant: fn(&mut Random, &[u32]) -> Plant) -
     (part, path::some_path(random, &alphabet))
 }
 
-/// Doors with links of label 0 to the same targets, and a star of an or of full ranges: a reply near its limit, if no door is stopped.
+/// Doors with links of label 0 to the same targets, and a star of an or of words that hold 0: a reply near its limit, if no door is stopped.
 fn dear_part_and_path(random: &mut Random) -> (Part, Vec<u32>) {
     let (doors, n) = (random.between(1, 3), random.between(1, 15));
     let fits = (4095 / doors - 1) / (n + 1) - 1;
@@ -83,7 +83,8 @@ fn dear_part_and_path(random: &mut Random) -> (Part, Vec<u32>) {
         stopped: random.chance(8),
         edges: (0..targets).map(|target| (0, 30 + target)).collect(),
     };
-    (Part { site: 9, nodes: (0..doors).map(node).collect() }, path::or_of_ranges(n, true))
+    let part = Part { site: 9, nodes: (0..doors).map(node).collect() };
+    (part, path::or_of(path::any_label(random, &[0]), n, true))
 }
 
 fn first_reply(random: &mut Random) -> Call {

@@ -34,7 +34,7 @@ fn likely_word(random: &mut Random) -> u32 {
         NODE => node | (random.below(8) as u32 * 0x1_0000),
         EDGE => node | (random.below(4096) as u32 * 0x1_0000),
         LABEL if random.chance(50) => random.word(),
-        LABEL => random.pick(&[node, node * 0x1001, 0x0100_0000 | (node % 8)]),
+        LABEL => random.pick(&[node, node * 0x1001]) | (random.below(4) as u32) << 24,
         OPERATOR => node % 4,
         DOOR => node | (random.below(2) as u32 * 0x1_0000),
         ROW => state,
@@ -47,13 +47,13 @@ fn likely_word(random: &mut Random) -> u32 {
 
 /// A word with a field that its kind's checks look at changed.
 fn kind_damage(random: &mut Random, word: u32) -> u32 {
-    let state = random.between(0, 15) as u32;
+    let (state, sort) = (random.below(16) as u32, random.below(16) as u32);
     match kind(word) {
         NODE => word & !(7 << 16) | random.pick(&[0, 2, 3, 6, 7]) << 16,
         DOOR => word ^ 1 << 16,
-        LABEL if random.chance(40) => word & !(15 << 24) | (random.between(1, 15) as u32 * (1 << 24)),
+        LABEL if random.chance(40) => word & !(15 << 24) | random.pick(&[0, 1, 2, 3, sort]) << 24,
         LABEL if random.chance(50) => LABEL << 28 | 1 << 24 | 1 << random.between(0, 23),
-        LABEL => LABEL << 28 | random.below(1 << 24) as u32,
+        LABEL => LABEL << 28 | random.pick(&[0, 2]) << 24 | random.below(1 << 24) as u32,
         OPERATOR => OPERATOR << 28 | 1 << random.below(28),
         ROW | REACH | CALL => word & !15 | state,
         _ => word ^ 1 << random.below(28),
@@ -128,9 +128,9 @@ fn damage_marks(random: &mut Random, words: &mut Vec<u32>) {
     }
 }
 
-/// More operands than may wait, or that are left at the end, or another n.
+/// More operands than may wait, or that are left at the end, another n, or another label word.
 pub fn damage_path(random: &mut Random, words: &mut Vec<u32>) {
-    match random.below(8) {
+    match random.below(9) {
         0 => {
             let at = random.between(1, words.len());
             words.splice(at..at, vec![OPERATOR << 28; random.between(1, 17)]);
@@ -142,6 +142,11 @@ pub fn damage_path(random: &mut Random, words: &mut Vec<u32>) {
         4 => {
             let count = random.between(15, 16);
             words.extend([vec![OPERATOR << 28; count], vec![OPERATOR << 28 | 1; count]].concat());
+        }
+        5 => {
+            let labels: Vec<usize> = (1..words.len()).filter(|at| kind(words[*at]) == LABEL).collect();
+            let at = if labels.is_empty() { 1 } else { random.pick(&labels) };
+            words[at] = kind_damage(random, words[at]);
         }
         _ => return damage_file(random, words),
     }

@@ -17,18 +17,55 @@ pub fn alphabet(random: &mut Random) -> Vec<u32> {
     (0..count).map(|_| label(random)).collect()
 }
 
-fn range(low: u32, high: u32) -> u32 {
+pub fn range(low: u32, high: u32) -> u32 {
     LABEL << 28 | high << 12 | low
+}
+
+/// All labels but those of the range.
+pub fn outside(low: u32, high: u32) -> u32 {
+    range(low, high) | 2 << 24
+}
+
+/// The labels before and after this one; at an end, itself.
+fn next_to(label: u32) -> (u32, u32) {
+    (label.saturating_sub(1), (label + 1).min(4095))
+}
+
+/// Outside a range that ends at a label of the alphabet, or next to one, so that it matters where it ends; some hold no label, and some
+/// nearly all.
+fn outside_word(random: &mut Random, a: u32, b: u32) -> u32 {
+    let (before, after) = next_to(a);
+    let any = random.below(4096) as u32;
+    match random.below(10) {
+        0..=2 => outside(a, a),
+        3 | 4 => outside(a.min(b), a.max(b)),
+        5 => outside(after, after.max(b)),
+        6 => outside(before.min(b), before),
+        7 => random.pick(&[outside(0, a), outside(a, 4095)]),
+        8 => random.pick(&[outside(0, before), outside(after, 4095)]),
+        _ => random.pick(&[outside(0, 4095), outside(any, any)]),
+    }
 }
 
 pub fn label_word(random: &mut Random, alphabet: &[u32]) -> u32 {
     let (a, b) = (random.pick(alphabet), random.pick(alphabet));
-    match random.below(10) {
+    match random.below(15) {
         0..=4 => range(a, a),
         5 | 6 => range(a.min(b), a.max(b)),
         7 => range(0, 4095),
         8 => range(a.saturating_sub(1), a.saturating_sub(1).max(b)),
-        _ => LABEL << 28 | 1 << 24 | random.below(8) as u32,
+        9 => LABEL << 28 | 1 << 24 | random.below(8) as u32,
+        _ => outside_word(random, a, b),
+    }
+}
+
+/// A label word that holds the whole alphabet: the full range, or all labels but one that is next to a label of the alphabet.
+pub fn any_label(random: &mut Random, alphabet: &[u32]) -> u32 {
+    let (before, after) = next_to(random.pick(alphabet));
+    let other = random.pick(&[before, after]);
+    match alphabet.contains(&other) || random.chance(50) {
+        true => range(0, 4095),
+        false => outside(other, other),
     }
 }
 
@@ -61,11 +98,10 @@ pub fn path(random: &mut Random, alphabet: &[u32], operands: usize) -> Vec<u32> 
     file(PATH, 0, n, &words)
 }
 
-/// An or of full ranges, starred or not.
-pub fn or_of_ranges(n: usize, star: bool) -> Vec<u32> {
-    let full = range(0, 4095);
-    let mut words = vec![full];
-    (1..n).for_each(|_| words.extend([full, OR]));
+/// An or of a label word with itself, starred or not.
+pub fn or_of(label: u32, n: usize, star: bool) -> Vec<u32> {
+    let mut words = vec![label];
+    (1..n).for_each(|_| words.extend([label, OR]));
     words.extend(star.then_some(STAR));
     file(PATH, 0, n as u32, &words)
 }
@@ -73,7 +109,7 @@ pub fn or_of_ranges(n: usize, star: bool) -> Vec<u32> {
 /// Any path, now and then one that every walk spells, so that nothing but stopped nodes is in its way.
 pub fn some_path(random: &mut Random, alphabet: &[u32]) -> Vec<u32> {
     if random.chance(20) {
-        return or_of_ranges(random.between(1, 3), true);
+        return or_of(any_label(random, alphabet), random.between(1, 3), true);
     }
     let most = random.pick(&[2, 4, 8, 16, 31]);
     let operands = random.between(1, most);

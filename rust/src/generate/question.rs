@@ -1,10 +1,10 @@
 //! Random whole questions: a plant, a true cut of it, a path.
 
-use super::path::{self, or_of_ranges, OR, THEN};
+use super::path::{self, any_label, or_of, range, OR, THEN};
 use super::plant;
 use crate::evaluation::part::Part;
 use crate::evaluation::plant::Plant;
-use crate::evaluation::words::{file, LABEL, PATH};
+use crate::evaluation::words::{file, PATH};
 use crate::random::Random;
 use std::collections::{BTreeMap, BTreeSet};
 
@@ -38,8 +38,9 @@ fn dear(random: &mut Random) -> Question {
     let stopped = random.pick(&[0, 0, 10]);
     let plant = plant::stop(random, plant, stopped);
     let (n, star) = (random.between(8, 15), random.chance(80));
+    let path = or_of(any_label(random, &alphabet), n, star);
     let parts = plant::true_cut(random, &plant, sites, 0);
-    Question { plant, parts, path: or_of_ranges(n, star) }
+    Question { plant, parts, path }
 }
 
 /// A plant too large for one file, cut where few links cross; some list more nodes than a bundle holds. A single stopped node ends most of
@@ -60,7 +61,7 @@ fn large(random: &mut Random) -> Question {
         plant.stopped.insert(random.pick(&numbers));
     }
     let path = match random.chance(60) {
-        true => or_of_ranges(1, true),
+        true => or_of(any_label(random, &alphabet), 1, true),
         false => path::path(random, &alphabet, 4),
     };
     let sites = random.between(6, 16);
@@ -87,10 +88,10 @@ fn many_calls(random: &mut Random) -> Question {
         Part { site, nodes: plant.nodes.range(from..to).map(node).collect() }
     };
     let parts = vec![part(4, 0, second), part(0, second, third), part(11, third, 65_536)];
-    let sevens = LABEL << 28 | 7 << 12 | 7;
+    let sevens = range(7, 7);
     let mut words = vec![sevens];
     (1..12).for_each(|_| words.extend([sevens, OR]));
-    words.extend([sevens, LABEL << 28 | 8 << 12 | 8, THEN, OR]);
+    words.extend([sevens, range(8, 8), THEN, OR]);
     Question { plant, parts, path: file(PATH, 0, 14, &words) }
 }
 

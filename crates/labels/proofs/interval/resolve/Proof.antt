@@ -1,6 +1,6 @@
 -- `interval::resolve` meets its contract. Assumes nothing.
 use borrow.Author.Needs.{needs}
-use Rattle.labels.proofs.Intervals.{range-ends, group-ends}
+use Rattle.labels.proofs.Intervals.{case-set, group-set}
 use Rattle.labels.proofs.interval.resolve.Statement.{statement}
 use Rattle.labels.proofs.interval.resolve.Tie as tie
 
@@ -11,5 +11,7 @@ resolve-spec =
     (λ c. search needs)
     (λ c. search needs)
     (λ c κs. search needs)
-    (λ c. search (range-ends, needs))
-    (λ c. search (group-ends, needs)))
+    (λ c. search needs)
+    (λ c. search (case-set, needs))
+    (λ c. search (group-set, needs))
+    (λ c. search (case-set, needs)))
