@@ -117,7 +117,8 @@ static const struct example {
     {AS_ASKED, 5, STOPPED_DOOR "; 40100002 52000fff; " CALL_WORDS},
 };
 
-/* Files that the damaged ones are made of, with and without stopped nodes and labels outside a range. */
+/* Files that the damaged ones are made of, with and without stopped nodes and labels outside a range, and a path in which as many operands wait
+   as may. */
 static const struct example seeds[] = {
     {AS_PART, 0, "10000005 20030001 30050002 20010003 30050002"},
     {AS_PART, 0, "1a000009 20040000 30000000 30000001 3fff0000 20070007 37ff0007 3800ffff 2005ffff"},
@@ -126,6 +127,8 @@ static const struct example seeds[] = {
     {AS_PATH, 0, P},
     {AS_PATH, 0, "40200006 51000007 60000000 60000002 50fff000 60000001"},
     {AS_PATH, 0, "40300007 52009008 52fff000 60000002 60000003 51000003 60000001"},
+    {AS_PATH, 0, "40800017 50005005 51000003 60000000 52009008 50fff000 60000000 51000007 52fff000 60000001 50001000 60000002 60000000 "
+                 "60000003 60000001 52001001 60000002 60000001 60000002 60000001 60000002 60000001 60000002"},
     {AS_CALLS, 0, CALL_WORDS},
     {AS_FIRSTS, 0, FIRST_0 "; " FIRST_1},
     {AS_FIRSTS, 0, "72100003 80000000 80010005; 70100007 80000007 90000000 a0000051 a0000071 90000001 a0000001; 73100001"},
@@ -263,7 +266,7 @@ static void test_sizes(void)
         size_t limit;
     } files[] = {
         {AS_PART, 0x10000000, 0x20000000, 1, MOWQACHI_PART_WORDS},
-        {AS_PATH, 0x40000000, 0x60000000, 0, 17},
+        {AS_PATH, 0x40000000, 0x60000000, 0, MOWQACHI_WAITING + 1},
         {AS_CALLS, 0xb0f00000, 0xc0000000, 1, MOWQACHI_CALLS_WORDS},
         {AS_SECONDS, 0xd0000000, 0xe0000000, 1, MOWQACHI_REPLY_WORDS},
         {AS_FIRSTS, 0x70000000, 0x80000000, 1, MOWQACHI_REPLY_WORDS},
@@ -309,6 +312,15 @@ static void fill_path(struct sample *s, uint32_t n, uint32_t label, size_t label
     head(&s->file[0], 0x40000000 + n * 0x100000);
 }
 
+/* A path that is an or of labels, at most `most` of which wait. */
+static void fill_or(struct sample *s, uint32_t n, uint32_t label, size_t labels, size_t most)
+{
+    parse(s, AS_PATH, "40000000");
+    put_or(&s->file[0], label, labels, most);
+    head(&s->file[0], 0x40000000 + n * 0x100000);
+}
+
+/* One label too many shows at the end, so that any wrong word gives 5 first; one operand too many shows at its own word. */
 static void test_paths(void)
 {
     static const uint32_t labels[] = {0x50fff000, 0x52fff000};
@@ -317,16 +329,44 @@ static void test_paths(void)
     expect(&s, 0);
     fill_path(&s, 0, 0x60000000, 1, 0x60000003, MOWQACHI_PATH_WORDS - 1);
     expect(&s, 2);
-    for (int k = 0; k < 2; k++) {
-        fill_path(&s, 15, labels[k], 15, 0x60000002, 14);
-        expect(&s, 0);
-        fill_path(&s, 0, labels[k], 16, 0x60000002, 15);
-        expect(&s, 9);
+    for (int k = 0; k < 2; k++)
+        for (size_t most = 2; most <= MOWQACHI_PATH_LABELS; most++) {
+            fill_or(&s, MOWQACHI_PATH_LABELS, labels[k], MOWQACHI_PATH_LABELS, most);
+            expect(&s, most <= MOWQACHI_WAITING ? 0 : 9);
+            fill_or(&s, 0, labels[k], MOWQACHI_PATH_LABELS + 1, most);
+            expect(&s, 9);
+            s.file[0].words[s.file[0].count - 1] = 0x70000000;
+            expect(&s, most <= MOWQACHI_WAITING ? 5 : 9);
+        }
+}
+
+/* So many operands wait, then operators follow, also with a star ahead of them. A wrong word at each place in turn gives 5, up to the operand that
+   is one too many and with it; behind that operand 9 comes first. */
+static void test_waiting(uint32_t operand, size_t operands)
+{
+    static const uint32_t wrong[] = {0x50000001, 0x51000008, 0x52000001, 0x53000000, 0x60000004, 0x70000000};
+    static struct sample s;
+    uint32_t n = kind_of(operand) == LABEL ? (uint32_t)operands : 0, number = operands > MOWQACHI_WAITING ? 9 : 0;
+    fill_path(&s, n, operand, operands, 0x60000001, operands - 1);
+    expect(&s, number);
+    insert_word(&s.file[0], operands + 1, 0x60000003);
+    mend(&s);
+    expect(&s, number);
+    for (size_t i = 1; i < 2 * operands; i++)
+        for (size_t k = 0; k < sizeof wrong / sizeof *wrong; k++) {
+            fill_path(&s, n, operand, operands, 0x60000001, operands - 1);
+            s.file[0].words[i] = wrong[k];
+            expect(&s, i > MOWQACHI_WAITING + 1 && number == 9 ? 9 : 5);
+        }
+}
+
+static void test_most_waiting(void)
+{
+    static const uint32_t operands[] = {0x60000000, 0x50fff000, 0x51000003, 0x52fff000};
+    for (size_t k = 0; k < sizeof operands / sizeof *operands; k++) {
+        test_waiting(operands[k], MOWQACHI_WAITING);
+        test_waiting(operands[k], MOWQACHI_WAITING + 1);
     }
-    fill_path(&s, 0, 0x60000000, 16, 0x60000001, 15);
-    expect(&s, 0);
-    fill_path(&s, 0, 0x60000000, 17, 0x60000001, 16);
-    expect(&s, 9);
 }
 
 /* A label word of every sort, with ends in the middle and at the limits, in order and not. */
@@ -372,7 +412,7 @@ static void test_dear_reply(uint32_t targets, uint32_t number, size_t words)
             push(&part.file[0], 0x30000002 + t);
     }
     head(&part.file[0], 0x10000000);
-    fill_path(&path, 15, 0x50fff000, 15, 0x60000002, 14);
+    fill_or(&path, 15, 0x50fff000, 15, MOWQACHI_WAITING);
     push(&path.file[0], 0x60000003);
     head(&path.file[0], 0x40f00000);
     struct asked asked = {FIRST_REPLY, {bytes_of(&part.file[0], a), bytes_of(&path.file[0], b)}, 0};
@@ -455,6 +495,7 @@ int main(int argc, char **argv)
     test_sizes();
     test_bundles();
     test_paths();
+    test_most_waiting();
     test_sorts();
     test_dear_reply(8, 0, 3875);
     test_dear_reply(9, MOWQACHI_RESULT, 0);

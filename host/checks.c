@@ -15,6 +15,10 @@ struct seen {
 
 typedef struct verdict word_check(const struct seen *seen, uint32_t w);
 
+/* A constant of mowqachi.h as text. */
+#define TEXT_OF(constant) AS_WRITTEN(constant)
+#define AS_WRITTEN(value) #value
+
 static const struct verdict fine = {0, 0, "accepted"};
 
 static struct verdict fault(unsigned number, const char *why)
@@ -86,7 +90,7 @@ static struct verdict check_path_word(const struct seen *seen, uint32_t w)
     if (seen->waiting < operands_of(w))
         return fault(9, "an operand is missing");
     if (seen->waiting - operands_of(w) + 1 > MOWQACHI_WAITING)
-        return fault(9, "a 17th operand waits");
+        return fault(9, "more than " TEXT_OF(MOWQACHI_WAITING) " operands wait");
     return fine;
 }
 

@@ -96,17 +96,28 @@ static struct verdict inspected(const struct sample *s)
     }
 }
 
+void put_or(struct file *f, uint32_t label, size_t labels, size_t most)
+{
+    size_t waiting = 0;
+    for (size_t i = 0; i < labels; i++) {
+        f->words[f->count++] = label;
+        waiting++;
+        if (waiting == most) {
+            f->words[f->count++] = 0x60000002;
+            waiting--;
+        }
+    }
+    for (; waiting > 1; waiting--)
+        f->words[f->count++] = 0x60000002;
+}
+
 /* A path of n labels: their or, or the empty word. */
 static struct span path_of(unsigned n)
 {
     static uint8_t bytes[4 * MOWQACHI_PATH_WORDS];
     struct input in = {.len = 0};
     struct file f = {.count = 1};
-    for (unsigned i = 0; i < n; i++) {
-        f.words[f.count++] = 0x50fff000;
-        if (i > 0)
-            f.words[f.count++] = 0x60000002;
-    }
+    put_or(&f, 0x50fff000, n, 2);
     if (n == 0)
         f.words[f.count++] = 0x60000000;
     f.words[0] = 0x40000000 + n * 0x100000 + (uint32_t)f.count;

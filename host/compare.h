@@ -27,6 +27,9 @@ struct sample {
     size_t cut_off;     /* bytes taken off the end of the last input */
 };
 
+/* Appends an or of so many labels. Once `most` wait an or stands behind each label; the other ors come at the end. */
+void put_or(struct file *f, uint32_t label, size_t labels, size_t most);
+
 /* The library's number. Stops the program where the inspector's is another. */
 uint32_t compare(const struct sample *s);
 /* The same, and stops the program where it is not this one. */

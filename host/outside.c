@@ -6,6 +6,7 @@
 
 #include "plants.h"
 
+/* With ranges alone a letter may be two labels and their or: a path then has 10 labels at most, and 6 operands that wait. */
 enum { MOST_LETTERS = 5, UNLINKED = 2000, THEN = 0x60000001, OR = 0x60000002, STAR = 0x60000003 };
 
 /* Of the links, and the ends of ranges: around the least label and the greatest. UNLINKED is none of them. */

@@ -12,7 +12,7 @@
 #include "drafts.h"
 
 /* No call may need more than BOUND bytes: docs/CALLS.md says so. */
-enum { STACK = 65536, GUARD = 4096, PAINT = 0xc3, RED_ZONE = 128, BOUND = 2048, MOST_JOBS = 32 };
+enum { STACK = 65536, GUARD = 4096, PAINT = 0xc3, RED_ZONE = 128, BOUND = 1536, MOST_JOBS = 32 };
 
 /* A call to be made on the small stack, and what came of it. */
 struct job {
@@ -66,14 +66,18 @@ static void fill_outside(struct draft *f)
     end_file(f, 0, 0x10000000);
 }
 
-/* 64 words and 15 labels: full ranges, all labels but 4095 by turns, and an empty word, which all wait, then operators, then stars. */
+/* 64 words and 15 labels: an empty word, then full ranges and all labels but 4095 by turns. Once as many wait as may, an operator stands behind
+   each; the other operators follow, then stars. */
 static void fill_path(struct draft *f, uint32_t operator)
 {
     f->len = 4;
-    for (int i = 0; i < MOWQACHI_PATH_LABELS; i++)
-        put(f, i % 2 == 0 ? 0x50fff000 : 0x52ffffff);
     put(f, 0x60000000);
-    for (int i = 0; i < MOWQACHI_PATH_LABELS; i++)
+    for (int i = 0; i < MOWQACHI_PATH_LABELS; i++) {
+        put(f, i % 2 == 0 ? 0x50fff000 : 0x52ffffff);
+        if (i + 2 >= MOWQACHI_WAITING)
+            put(f, operator);
+    }
+    for (int i = 0; i < MOWQACHI_WAITING - 2; i++)
         put(f, operator);
     while (f->len < 4 * MOWQACHI_PATH_WORDS)
         put(f, 0x60000003);

@@ -1,5 +1,5 @@
 /* The split link search, for a C11 or C++ host. docs/CALLS.md tells which call belongs where, docs/FORMATS.md what every file, trip and
-   number is: document 01, and of document 02 the requests 1, labels outside a range, and 7, stopped nodes.
+   number is: document 01, and of document 02 the requests 1, labels outside a range, 7, stopped nodes, and 9, eight operands waiting.
 
    Buffers. A length is in bytes. Any alignment will do. Inputs are only read, and may overlap one another. The output and the working
    buffer overlap nothing: neither each other nor an input. A pointer is never null: where a length is 0, pass the address of any object.
@@ -53,9 +53,9 @@ extern "C" {
 #define MOWQACHI_LABELS 4096
 #define MOWQACHI_NODES 65536
 
-/* In a path: label words at most, and operands that wait at any word at most. */
+/* In a path: label words at most, and operands that wait after any word at most. */
 #define MOWQACHI_PATH_LABELS 15
-#define MOWQACHI_WAITING 16
+#define MOWQACHI_WAITING 8
 
 /* What a call gives. */
 enum mowqachi_number {
@@ -68,7 +68,7 @@ enum mowqachi_number {
     MOWQACHI_ORDER = 6,    /* not strictly ascending */
     MOWQACHI_ROOT = 7,     /* root without door; second root; whole or first bundle without root */
     MOWQACHI_TARGET = 8,   /* whole: target not a node */
-    MOWQACHI_OPERAND = 9,  /* operand missing, 17 waiting, not one left, label words not n */
+    MOWQACHI_OPERAND = 9,  /* operand missing, 9 waiting, not one left, label words not n */
     MOWQACHI_STATE = 10,   /* state above the file's n */
     MOWQACHI_CUT = 11,     /* cut list's length or a byte above 15; site asked above 15 */
     MOWQACHI_BUNDLE = 12,  /* site twice or different n in a bundle; call list's n not the path's */

@@ -50,6 +50,9 @@ pub fn old_search() -> Vec<Shape> {
             search(parts::stopped(parts::random(n, 3, Doors::Root)), paths::half_ranges())
         }),
         shape("three random links, labels outside ranges", |n| search(parts::random(n, 3, Doors::Root), paths::outside_halves())),
+        shape("three random links, eight operands waiting", |n| {
+            search(parts::random(n, 3, Doors::Root), paths::eight_waiting(paths::half_ranges()))
+        }),
     ]
 }
 
@@ -84,6 +87,9 @@ pub fn first_reply() -> Vec<Shape> {
             search(parts::stopped(parts::doorways(n)), paths::any_label())
         }),
         shape("two random links, all doors, labels outside ranges", |n| search(parts::random(n, 2, Doors::All), paths::outside_halves())),
+        shape("two random links, fifteen turns, all doors, eight operands waiting", |n| {
+            search(parts::random(n, 2, Doors::All), paths::eight_waiting(paths::turns()))
+        }),
     ]
 }
 
@@ -125,6 +131,9 @@ pub fn second_reply() -> Vec<Shape> {
         }),
         shape("three random links, all called, labels outside ranges", |n| {
             all_called(parts::random(n, 3, Doors::All), paths::outside_halves(), n)
+        }),
+        shape("three random links, all called, eight operands waiting", |n| {
+            all_called(parts::random(n, 3, Doors::All), paths::eight_waiting(paths::half_ranges()), n)
         }),
     ]
 }

@@ -56,6 +56,13 @@ pub fn outside_halves() -> Vec<u32> {
     halves(outside)
 }
 
+/// A star of fifteen labels under one operator, with the same states and steps but eight operands waiting: eight labels and their operators,
+/// the other seven and theirs.
+pub fn eight_waiting(path: Vec<u32>) -> Vec<u32> {
+    let (labels, operators): (Vec<u32>, Vec<u32>) = path[1..].iter().partition(|&&w| kind(w) == 5);
+    seal([&[0], &labels[..8], &operators[..7], &labels[8..], &operators[7..]].concat())
+}
+
 /// A star of an or of fifteen times the one label that no link of `parts::outward` has.
 pub fn last_label() -> Vec<u32> {
     star_of_or((0..15).map(|_| range(4095, 4095)))

@@ -4,6 +4,9 @@ use crate::words::*;
 
 const GROUPS: [(u32, u32); 8] = [(0, 4095), (0, 1023), (0, 255), (1024, 1535), (1536, 1791), (1792, 2047), (2048, 3071), (4032, 4095)];
 
+/// At most so many operands wait at any word.
+const MOST_WAITING: usize = 8;
+
 pub struct Automaton {
     /// What may follow each state.
     pub follow: [u16; 16],
@@ -79,7 +82,7 @@ fn operate(op: u32, stack: &mut Vec<Operand>, follow: &mut [u16; 16]) -> Result<
 
 pub fn path(bytes: &[u8]) -> Result<Automaton, u32> {
     let ws = file(bytes, 64, 4, 0x0f00_0000)?;
-    let (mut stack, mut follow, mut ends, mut outside) = (Vec::with_capacity(17), [0; 16], Vec::with_capacity(16), 0);
+    let (mut stack, mut follow, mut ends, mut outside) = (Vec::with_capacity(MOST_WAITING + 1), [0; 16], Vec::with_capacity(16), 0);
     for &w in &ws[1..] {
         match kind(w) {
             5 => {
@@ -95,7 +98,7 @@ pub fn path(bytes: &[u8]) -> Result<Automaton, u32> {
             }
             _ => return Err(5),
         }
-        unless(9, stack.len() <= 16)?;
+        unless(9, stack.len() <= MOST_WAITING)?;
     }
     unless(9, stack.len() == 1 && ends.len() == labels(ws[0]) as usize)?;
     follow[0] = stack[0].begins;

@@ -1,9 +1,10 @@
 //! One call, made to the library in guarded buffers and given to the evaluation, and the two compared.
 
 use crate::calls;
+use crate::evaluation::path::{read_path, read_path_by, MayStand, Path};
 use crate::evaluation::words::*;
 use crate::evaluation::{self, Outcome, Room};
-use crate::mistakes::mistaken;
+use crate::mistakes::{mistaken, OUTSIDE, STOPPED, WAITING};
 use crate::random::Random;
 
 #[derive(Clone, Debug)]
@@ -78,8 +79,30 @@ impl Call {
     }
 
     /// Whether a program that makes this mistake would give another outcome of an accepted call.
-    pub fn finds_out(&self, room: Room, outcome: &Outcome, taken: fn(u32) -> u32) -> bool {
+    fn misread(&self, room: Room, outcome: &Outcome, taken: fn(u32) -> u32) -> bool {
         outcome.is_ok() && self.mistaken(taken).map_or(false, |call| call.evaluate(room) != *outcome)
+    }
+
+    /// Whether a program that holds words to this rule would give another number: the call comes to its path, and the path's number is
+    /// another. No check behind the path's gives 9, so the call's number is another too.
+    fn miscounted(&self, outcome: &Outcome, may_stand: MayStand) -> bool {
+        let path = match self {
+            Call::OldSearch { path, .. } | Call::FirstReply { path, .. } | Call::SecondReply { path, .. } => {
+                path
+            }
+            _ => return false,
+        };
+        let ahead = |refusal: &Refusal| ["buffers", "whole", "part"].contains(&refusal.input);
+        let number = |read: Result<Path, Refusal>| read.err().map(|refusal| refusal.number);
+        !outcome.as_ref().err().map_or(false, ahead)
+            && number(read_path_by(path, may_stand)) != number(read_path(path))
+    }
+
+    /// The mistakes by which a program would give another outcome: in reading the words of an accepted call, in counting the operands of any.
+    pub fn finds_out(&self, room: Room, outcome: &Outcome) -> Vec<&'static str> {
+        let misread = STOPPED.iter().chain(&OUTSIDE).filter(|(_, taken)| self.misread(room, outcome, *taken));
+        let miscounted = WAITING.iter().filter(|(_, may_stand)| self.miscounted(outcome, *may_stand));
+        misread.map(|(what, _)| *what).chain(miscounted.map(|(what, _)| *what)).collect()
     }
 
     fn make(&self, given: &[Guarded], out: &mut [u8], work: &mut [u8]) -> u32 {

@@ -1,6 +1,7 @@
-//! Mistakes in reading a word, each as the word that it is taken for. The tests fail where none of their cases would find one out.
+//! Mistakes in reading a word, each as the word that it is taken for, and in counting operands, each as the rule that words are held to. The
+//! tests fail where none of their cases would find one out.
 
-use crate::evaluation::path::{read_path, Path};
+use crate::evaluation::path::{read_path, MayStand, Path, MOST_WAITING};
 use crate::evaluation::words::*;
 use crate::generate::path::{outside, range};
 use std::ops::Range;
@@ -23,6 +24,14 @@ pub const OUTSIDE: [Mistake; 6] = [
     ("outside without the label below", |word| taken(word, |low, high| all_but(low.max(1) - 1..high + 1))),
     ("outside without the label above", |word| taken(word, |low, high| all_but(low..(high + 2).min(4096)))),
     ("outside all labels refused", |word| if word == outside(0, 4095) { NO_SORT } else { word }),
+];
+
+/// Operands that wait. A program that lets more of them wait is found out by refused calls alone.
+pub const WAITING: [(&str, MayStand); 4] = [
+    ("nine may wait", |_, after| after <= MOST_WAITING + 1),
+    ("sixteen may wait", |_, after| after <= 16),
+    ("only seven may wait", |_, after| after < MOST_WAITING),
+    ("counted ahead of the word", |before, _| before < MOST_WAITING),
 ];
 
 /// A label word that is refused.

@@ -1,9 +1,9 @@
 //! Random and damaged inputs for every call, by the library and by the evaluation; every check of document 01 must have refused some, and
-//! every mistake in reading stopped nodes and labels outside a range must have been found out by some.
+//! every mistake in reading stopped nodes and labels outside a range, and in counting operands, must have been found out by some.
 
 use mowqachi_tests::evaluation::words::Refusal;
 use mowqachi_tests::generate::calls::{call, room};
-use mowqachi_tests::mistakes::{Mistake, OUTSIDE, STOPPED};
+use mowqachi_tests::mistakes::{OUTSIDE, STOPPED, WAITING};
 use mowqachi_tests::random::{cases, seed, Naming, Random};
 use std::collections::BTreeMap;
 
@@ -32,7 +32,7 @@ const PATH: Checks = &[
     (5, "label sort"),
     (5, "operator zero bit"),
     (9, "operand missing"),
-    (9, "17 waiting"),
+    (9, "9 waiting"),
     (9, "not one left"),
     (9, "label words not n"),
 ];
@@ -79,11 +79,11 @@ const RESULT: Checks = &[(15, "over its limit")];
 type Inputs<'a> = &'a [(&'static str, &'a [Checks])];
 
 /// The mistakes in reading these inputs.
-fn mistakes(inputs: Inputs) -> Vec<Mistake> {
+fn mistakes(inputs: Inputs) -> Vec<&'static str> {
     let has = |names: &[&str]| inputs.iter().any(|(input, _)| names.contains(input));
-    let nodes = STOPPED.into_iter().filter(|_| has(&["part", "whole"]));
-    let labels = OUTSIDE.into_iter().filter(|_| has(&["path"]));
-    nodes.chain(labels).collect()
+    let nodes = STOPPED.map(|(what, _)| what).into_iter().filter(|_| has(&["part", "whole"]));
+    let paths = OUTSIDE.map(|(what, _)| what).into_iter().chain(WAITING.map(|(what, _)| what));
+    nodes.chain(paths.filter(|_| has(&["path"]))).collect()
 }
 
 fn named(refusal: Option<&Refusal>) -> String {
@@ -96,14 +96,13 @@ fn owed(inputs: Inputs) -> BTreeMap<String, u64> {
         let list = lists.iter().flat_map(|list| list.iter());
         list.map(|(number, why)| named(Some(&Refusal { number: *number, input, why })))
     });
-    let mistakes = mistakes(inputs).into_iter().map(|(what, _)| what.to_string());
+    let mistakes = mistakes(inputs).into_iter().map(str::to_string);
     checks.chain(mistakes).chain([named(None)]).map(|what| (what, 0)).collect()
 }
 
 /// Makes this share of the cases, and goes on for a while if something has not been met.
 fn run(name: &'static str, inputs: Inputs) {
     let mut seen = owed(&[&[("buffers", &[ROOM][..])], inputs].concat());
-    let mistakes = mistakes(inputs);
     let wanted = cases() * 12 / 100;
     let most = wanted + 50_000;
     let mut made = 0;
@@ -113,8 +112,7 @@ fn run(name: &'static str, inputs: Inputs) {
         let call = call(&mut random, name);
         let room = room(&mut random, &call);
         let outcome = call.check(&mut random, room);
-        let found_out = mistakes.iter().filter(|(_, taken)| call.finds_out(room, &outcome, *taken));
-        let found_out = found_out.map(|(what, _)| what.to_string());
+        let found_out = call.finds_out(room, &outcome).into_iter().map(str::to_string);
         for what in found_out.chain([named(outcome.as_ref().err())]) {
             let count = seen.get_mut(&what);
             *count.unwrap_or_else(|| panic!("{name} refused by a check it has not: {outcome:?}")) += 1;

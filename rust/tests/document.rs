@@ -1,7 +1,7 @@
-//! Every example of document 01, stopped nodes in the same files and labels outside a range in the same paths, by the library and by the
-//! evaluation.
+//! Every example of document 01, stopped nodes in the same files, labels outside a range in the same paths, and as many operands waiting as
+//! may and one more, by the library and by the evaluation.
 
-use mowqachi_tests::beside::{answer, Call};
+use mowqachi_tests::beside::{answer, hex, Call};
 use mowqachi_tests::evaluation::words::bytes_of;
 use mowqachi_tests::evaluation::Room;
 use mowqachi_tests::random::Random;
@@ -79,9 +79,10 @@ fn over_a_part(part: &str) -> Vec<Call> {
     ]
 }
 
-/// Every call that reads a path, with this one, and a call list for n 1.
+/// Every call that reads a path, with this one, and a call list of its n.
 fn over_a_path(path: &str) -> Vec<Call> {
-    vec![old_search(W, path), first_reply("10000001", path), second_reply("10000001", path, "b0100001")]
+    let calls = format!("b0{}00001", &path[2..3]);
+    vec![old_search(W, path), first_reply("10000001", path), second_reply("10000001", path, &calls)]
 }
 
 fn all_calls() -> Vec<Call> {
@@ -323,9 +324,52 @@ fn path_edges() {
     gives(old_search(W, EMPTY_WORD), "f0000002 e0000001");
     let waiting = |before: usize, last| [vec![EMPTY; before], vec![last], vec![THEN; before]].concat();
     for (n, last, list) in [(0, EMPTY, "f0000002 e0000001"), (1, FULL, "f0000001"), (1, ONLY_0, "f0000001")] {
-        gives(search(path(n, &waiting(15, last))), list);
-        refuses(search(path(n, &waiting(16, last))), 9);
+        gives(search(path(n, &waiting(7, last))), list);
+        refuses(search(path(n, &waiting(8, last))), 9);
     }
+}
+
+/// The number that each call that reads paths gives for one of these words, with the n that they have.
+fn path_gets(words: &[u32], number: u32) {
+    let n = words.iter().filter(|word| **word >> 28 == 5).count();
+    let path = hex(&path(n as u32, words));
+    over_a_path(&path).iter().for_each(|call| assert_eq!(made(call).0, number, "{path}"));
+}
+
+#[test]
+fn operands_that_wait() {
+    for word in [EMPTY, FULL, ONLY_0] {
+        let behind = |count: usize, words: &[u32]| [&vec![word; count][..], words].concat();
+        for operator in [THEN, OR] {
+            path_gets(&behind(8, &[operator; 7]), 0);
+            path_gets(&behind(9, &[operator; 8]), 9);
+        }
+        path_gets(&behind(8, &[&[STAR], &[THEN; 7][..]].concat()), 0);
+        // the ninth gives 9 at its word, and 5 comes before 9 there
+        for wrong in [0, 0x5000_0001, 0x5200_0001, 0x5300_0000, 0x6000_0004] {
+            path_gets(&behind(9, &[wrong]), 9);
+            path_gets(&behind(8, &[wrong]), 5);
+            path_gets(&behind(7, &[wrong, word, word]), 5);
+        }
+    }
+}
+
+#[test]
+fn fifteen_labels_of_which_eight_wait() {
+    for label in [FULL, ONLY_0] {
+        for (first, number) in [(7, 9), (8, 0), (9, 9)] {
+            let rest = 15 - first;
+            let words = [vec![label; first], vec![OR; first - 1], vec![label; rest], vec![OR; rest]].concat();
+            path_gets(&words, number);
+        }
+        for (first, number) in [(2, 0), (8, 0), (9, 9)] {
+            let words = [vec![label; first], [OR, label].repeat(15 - first), vec![OR; first - 1]].concat();
+            path_gets(&words, number);
+        }
+    }
+    let labels = [0x5000_5005, 0x5000_6006].repeat(8);
+    let words = [&labels[..8], &[THEN; 7], &labels[8..15], &[THEN; 7]].concat();
+    lists(W, &hex(&path(15, &words)), "f0000002 e0000002");
 }
 
 /// Whether a path of this one label word leads over a link with this label, by each call that reads paths.
@@ -361,10 +405,7 @@ fn label_words_at_their_ends() {
 
 #[test]
 fn sorts_of_labels() {
-    let gets = |sort: u32, fields: u32, number: u32| {
-        let path = format!("40100002 {:08x}", 0x5000_0000 | sort << 24 | fields);
-        over_a_path(&path).iter().for_each(|call| assert_eq!(made(call).0, number, "{path}"));
-    };
+    let gets = |sort: u32, fields: u32, number| path_gets(&[0x5000_0000 | sort << 24 | fields], number);
     let (right, wrong) = ([0, 0xff_f000, 0xff_ffff, 0x00_5005, 0x00_2001], [0x00_0001, 0x00_1002, 0xff_efff]);
     for sort in [0, 2] {
         right.into_iter().for_each(|ends| gets(sort, ends, 0));

@@ -17,6 +17,7 @@ use Rattle.files.specs.Part.{partCheck, wholeCheck}
 use Rattle.files.specs.Part as part
 use Rattle.files.specs.declared.part.Seen.{Seen}
 use Rattle.files.specs.declared.reply.Seen.{Seen as ReplySeen}
+use Rattle.files.specs.Limits.{mostWaiting}
 use Rattle.files.specs.Path.{pathCheck}
 use Rattle.files.specs.Path as path
 use Rattle.files.specs.Reply.{replyCheck}
@@ -111,12 +112,12 @@ cuts-numbers whole cuts site = search among
 
 -- Paths
 
-path-word : (waiting w : ℕ) → Among (5 ∷ 9 ∷ []) (path.wordCheck waiting w)
-path-word waiting w = search among
+path-word : (most waiting w : ℕ) → Among (5 ∷ 9 ∷ []) (path.wordCheck most waiting w)
+path-word most waiting w = search among
 
 pub path-numbers : (ws : List ℕ) → Among (2 ∷ 3 ∷ 4 ∷ 5 ∷ 9 ∷ []) (pathCheck ws)
-path-numbers = file-numbers 4 path.bodyCheck
-    (λ h ws. among-then (among-scan path.wordCheck path.waits path.endCheck path-word (λ waiting. search among) 0 ws) (search among)) false true
+path-numbers = file-numbers 4 (path.bodyCheck mostWaiting)
+    (λ h ws. among-then (among-scan _ path.waits path.endCheck (path-word mostWaiting) (λ waiting. search among) 0 ws) (search among)) false true
 
 -- Call lists
 

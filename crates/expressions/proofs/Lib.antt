@@ -4,3 +4,4 @@ pub mod Postfix
 pub mod Paths
 pub mod Examples
 pub mod Labels
+pub mod Waiting

@@ -9,6 +9,7 @@ use native.Mathlib.Omega.{arith}
 use lib.ListN.{length, getD, drop}
 use Rattle.sets.specs.Sets.{filter}
 use Rattle.files.specs.Field.{labelsOf}
+use Rattle.files.specs.Limits.{mostWaiting}
 use Rattle.files.specs.Path.{isLabel, operatorOf, scan, pathCheck}
 use Rattle.files.proofs.Checks.{checks}
 use Rattle.expressions.specs.Expr.{Expr, empty, letter, then, or, star, count}
@@ -46,13 +47,13 @@ module _ (is : List Item) (ls : List ℕ) (good : ℕ → Type 0) (rest : (s : L
   one w false (suc (suc (suc zero))) l (a ∷ s) t h = onto (star a ∷ s) h (omega arith) (omega arith)
   one w false (suc (suc (suc (suc k)))) l s t h = absurd (omega arith)
 
-words-make : (ws : List ℕ) (s : List Expr) → scan (length s) ws ≡ 0 → Makes (map item ws) (length (filter isLabel ws)) s
+words-make : (ws : List ℕ) (s : List Expr) → scan mostWaiting (length s) ws ≡ 0 → Makes (map item ws) (length (filter isLabel ws)) s
 words-make [] [] h = absurd (omega arith)
 words-make [] (e ∷ []) h = (e, refl, omega arith)
 words-make [] (b ∷ a ∷ s) h = absurd (omega (arith, simp checks at h))
 words-make (w ∷ ws) s h =
     let k = simp checks at h in
-    one (map item ws) (filter isLabel ws) (λ j. scan j ws ≡ 0) (words-make ws) w (isLabel w) (operatorOf w) (omega arith) s (k .0 .1 .0) (k .1)
+    one (map item ws) (filter isLabel ws) (λ j. scan mostWaiting j ws ≡ 0) (words-make ws) w (isLabel w) (operatorOf w) (omega arith) s (k .0 .1 .0) (k .1)
 
 pub path-some : (path : List ℕ) → pathCheck path ≡ 0 → 0 < length path
 path-some [] ok = absurd (omega arith)

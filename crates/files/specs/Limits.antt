@@ -1,4 +1,5 @@
--- Believed. Document 01's limits of files, in words with the header, and of the working buffer, in bytes.
+-- Believed. Limits: of files, in words with the header; of the operands that wait in a path; of the working buffer, in bytes. Document 01; document
+-- 02, request 9 (eight operands).
 use Prim.Native.Nat.{ℕ}
 
 -- a part, and so a whole
@@ -7,6 +8,10 @@ partWords = 4096
 
 abbrev pub pathWords : ℕ
 pathWords = 64
+
+-- the most operands that may wait after any word of a path
+abbrev pub mostWaiting : ℕ
+mostWaiting = 8
 
 -- a first reply, a call list, a second reply
 abbrev pub replyWords : ℕ

@@ -1,4 +1,5 @@
--- Believed. A path: an expression in postfix, at most 64 words with the header. Document 01, "Path"; document 02, request 1 (sort 2).
+-- Believed. A path: an expression in postfix, at most 64 words with the header. Document 01, "Path"; document 02, requests 1 (sort 2) and 9
+-- (operands that wait).
 use Prim.Native.Nat.{ℕ, suc, _+_, _-_, _*_, _^_}
 use mathlib.Core.Bool.{Bool, true, false, cond, _&&_, _||_}
 use mathlib.Core.List.{List, [], _∷_}
@@ -6,12 +7,9 @@ use lib.Dec.{eqb, leb}
 use lib.ListN.{length, getD}
 use Rattle.sets.specs.Sets.{filter}
 use Rattle.files.specs.Field.{bits, kindOf, labelsOf, wordOf}
+use Rattle.files.specs.Limits.{mostWaiting}
 use Rattle.files.specs.Refuse.{_then_, _unless_, fileCheck}
 use Rattle.files.specs.Scan.{scanWords}
-
--- the most operands that wait at any word
-abbrev pub mostWaiting : ℕ
-mostWaiting = 16
 
 abbrev pub isLabel : ℕ → Bool
 isLabel w = eqb (kindOf w) 5
@@ -63,21 +61,30 @@ takes w = cond (isLabel w) 0 (getD (0 ∷ 2 ∷ 2 ∷ 1 ∷ []) (operatorOf w) 0
 abbrev pub waits : ℕ → ℕ → ℕ
 waits waiting w = suc (waiting - takes w)
 
-abbrev pub wordCheck : ℕ → ℕ → ℕ
-wordCheck waiting w =
+-- at most `most` operands wait at any of the words, where `waiting` wait before them
+abbrev pub atMost : ℕ → ℕ → List ℕ → Bool
+atMost most waiting [] = true
+atMost most waiting (w ∷ ws) = leb (waits waiting w) most && atMost most (waits waiting w) ws
+
+-- the checks of a path, where at most `most` operands may wait
+abbrev pub wordCheck : ℕ → ℕ → ℕ → ℕ
+wordCheck most waiting w =
     cond (isLabel w) (labelCheck w) (operatorCheck w)
-    then 9 unless (leb (takes w) waiting && leb (waits waiting w) mostWaiting)
+    then 9 unless (leb (takes w) waiting && leb (waits waiting w) most)
 
 -- not one left
 abbrev pub endCheck : ℕ → ℕ
 endCheck waiting = 9 unless eqb waiting 1
 
-abbrev pub scan : ℕ → List ℕ → ℕ
-scan waiting ws = scanWords wordCheck waits endCheck waiting ws
+abbrev pub scan : ℕ → ℕ → List ℕ → ℕ
+scan most waiting ws = scanWords (wordCheck most) waits endCheck waiting ws
 
 -- the words after a header: not n label words at the end
-abbrev pub bodyCheck : ℕ → List ℕ → ℕ
-bodyCheck h ws = scan 0 ws then 9 unless eqb (length (filter isLabel ws)) (labelsOf h)
+abbrev pub bodyCheck : ℕ → ℕ → List ℕ → ℕ
+bodyCheck most h ws = scan most 0 ws then 9 unless eqb (length (filter isLabel ws)) (labelsOf h)
+
+abbrev pub pathCheckBy : ℕ → List ℕ → ℕ
+pathCheckBy most ws = fileCheck 4 false true (bodyCheck most) ws
 
 abbrev pub pathCheck : List ℕ → ℕ
-pathCheck ws = fileCheck 4 false true bodyCheck ws
+pathCheck ws = pathCheckBy mostWaiting ws

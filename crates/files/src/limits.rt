@@ -1,9 +1,12 @@
-// Document 01's limits of files, in words with the header, and of the working buffer, in bytes.
+// Limits: of files, in words with the header; of the operands that wait in a path; of the working buffer, in bytes.
 
 // A part, and so a whole.
 pub const PART_WORDS: usize = 4096;
 
 pub const PATH_WORDS: usize = 64;
+
+// The most operands that may wait after any word of a path.
+pub const MOST_WAITING: usize = 8;
 
 // A first reply, a call list, a second reply.
 pub const REPLY_WORDS: usize = 4096;

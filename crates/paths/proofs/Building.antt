@@ -10,7 +10,7 @@ use lib.ListN.{length, getD, set, replicate, length-set}
 use lib.Seq.{getD-set-same, getD-set-other}
 use Rattle.sets.specs.States.{hasState}
 use Rattle.sets.proofs.StateSets.{has-empty}
-use Rattle.files.specs.Path.{mostWaiting}
+use Rattle.files.specs.Limits.{mostWaiting}
 use Rattle.files.specs.Expr.{labelAt, exprAt}
 use Rattle.files.specs.declared.expr.ExprWord.{ExprWord}
 use Rattle.files.specs.declared.expr.ExprWord.the-variants as variants

@@ -8,7 +8,8 @@ use native.Mathlib.Omega.{arith}
 use lib.ListN.{length, getD, drop, length-append}
 use Rattle.sets.specs.Sets.{filter}
 use Rattle.files.specs.Word.{words}
-use Rattle.files.specs.Path.{mostWaiting, isLabel, operatorOf, takes, scan, pathCheck}
+use Rattle.files.specs.Limits.{mostWaiting}
+use Rattle.files.specs.Path.{isLabel, operatorOf, takes, scan, pathCheck}
 use Rattle.files.specs.Expr.{exprCheck}
 use Rattle.files.specs.Read.{readAt}
 use Rattle.files.specs.declared.cursor.Cursor.{Cursor}
@@ -55,7 +56,7 @@ pub record Building (e : Expr) (left : List ℕ) (b : Builder) : Type 0 where
   pub seen : List ℕ
   pub labelled : Labelled (b .letters) seen
   pub computes : compute (map item left) seen (fragmentsIn b) (followIn b) ≡ some (constructionOf e)
-  pub scans : scan (b .waiting) left ≡ 0
+  pub scans : scan mostWaiting (b .waiting) left ≡ 0
   pub few : length seen + length (filter isLabel left) ≤ 15
   pub most : b .waiting ≤ mostWaiting
   pub sized : length (b .operands) ≡ mostWaiting

@@ -4,7 +4,7 @@ use mathlib.Core.Bool.{Bool, false}
 use mathlib.Core.List.{List, [], _∷_, _++_}
 use Prim.Native.Nat.{ℕ, zero, suc, _+_, _-_, _≤_}
 use lib.ListN.{length, getD}
-use Rattle.files.specs.Path.{mostWaiting}
+use Rattle.files.specs.Limits.{mostWaiting}
 use Rattle.expressions.specs.Postfix.{Item, put-empty, put-letter, make-then, make-or, make-star}
 use Rattle.expressions.specs.Fragments.{Fragment, compute}
 use Rattle.paths.specs.Operand.{fragmentIn, tableIn}

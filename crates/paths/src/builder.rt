@@ -3,7 +3,7 @@
 ghost use mathlib.Core.Path.{_≡_};
 ghost use Prim.Native.Nat.{ℕ, _<_};
 ghost use lib.ListN.{length};
-ghost use Rattle.files.specs.Path.{mostWaiting};
+ghost use Rattle.files.specs.Limits.{mostWaiting};
 ghost use Rattle.files.specs.Expr.{exprCheck, labelAt};
 ghost use Rattle.expressions.specs.Postfix.{put-empty, put-letter, make-then, make-or, make-star};
 ghost use Rattle.expressions.specs.Labels.{operatorItem, item};
@@ -21,10 +21,8 @@ use super::table::link;
 use files::expr::ExprWord;
 use files::expr::Label;
 use files::expr::read_expr;
+use files::limits::MOST_WAITING;
 use labels::interval::resolve;
-
-// The most operands that wait at any word.
-pub const MOST_WAITING: usize = 16;
 
 pub struct Builder {
     pub operands: [Operand; MOST_WAITING],

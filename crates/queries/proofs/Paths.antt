@@ -24,7 +24,8 @@ use Rattle.files.specs.Word.{words}
 use Rattle.files.specs.Field.{bits, kindOf, labelsOf}
 use Rattle.files.specs.Read.{readAt}
 use Rattle.files.specs.Refuse.{_then_, _unless_}
-use Rattle.files.specs.Path.{isLabel, sortOf, hasEnds, lowOf, highOf, takes, waits, mostWaiting, wordCheck, endCheck, scan, bodyCheck}
+use Rattle.files.specs.Limits.{mostWaiting}
+use Rattle.files.specs.Path.{isLabel, sortOf, hasEnds, lowOf, highOf, takes, waits, wordCheck, endCheck, scan, bodyCheck}
 use Rattle.files.specs.Expr.{exprCheck, exprAt}
 use Rattle.files.proofs.Checks.{checks, passed-first, refused-first}
 use Rattle.files.proofs.Exprs.{expr-wrong, label-told, operator-told, wrong-told}
@@ -78,11 +79,11 @@ module _ (w : ℕ) {e : ExprWord} (h : e ≡ exprAt w) where
   pub takes-operator : {p t : ℕ} → e ≡ variants.Operator p → t ≡ getD (0 ∷ 2 ∷ 2 ∷ 1 ∷ []) p 0 → t ≡ takes w
   takes-operator a g = let o = operator-told w h a in rw (o .1, ← (o .2)) g
 
-  pub word-wrong : (waiting : ℕ) → e ≡ variants.Wrong → 5 ≡ wordCheck waiting w
+  pub word-wrong : (waiting : ℕ) → e ≡ variants.Wrong → 5 ≡ wordCheck mostWaiting waiting w
   word-wrong waiting a = refused-first (exprCheck w) _ (λ z. omega arith) (sym (expr-five w (wrong-told w h a)))
 
   pub word-right : (waiting : ℕ) {n t : ℕ} → (e ≡ variants.Wrong → ⊥) → (exprCheck w ≡ 0 → t ≡ takes w)
-      → n ≡ (9 unless (leb t waiting && leb (suc (waiting - t)) mostWaiting)) → n ≡ wordCheck waiting w
+      → n ≡ (9 unless (leb t waiting && leb (suc (waiting - t)) mostWaiting)) → n ≡ wordCheck mostWaiting waiting w
   word-right waiting a g f = passed-first (exprCheck w) _ right refl (rw (← g right) f)
     where
       right : exprCheck w ≡ 0
@@ -90,7 +91,7 @@ module _ (w : ℕ) {e : ExprWord} (h : e ≡ exprAt w) where
 
 -- for the proof of `check_body`: at the words from k on, `waiting` operands wait, and `count` labels were read
 pub record Checking (s : List ℕ) (waiting count k : ℕ) : Type 0 where
-  pub scanning : Scanning wordCheck waits endCheck s (scan 0 (drop 1 (words s))) waiting k
+  pub scanning : Scanning (wordCheck mostWaiting) waits endCheck s (scan mostWaiting 0 (drop 1 (words s))) waiting k
   pub counting : Counting isLabel s (length (filter isLabel (drop 1 (words s)))) count k
 
 pub checking-first : (s : List ℕ) → Checking s 0 0 1
@@ -98,8 +99,8 @@ checking-first s = record { scanning = record { same = refl }; counting = counti
 
 module _ {s : List ℕ} {waiting count k : ℕ} {r : Step} (f : Checking s waiting count k) (q : r ≡ readAt s k) where
   -- a word is read, e is its case, and n its check
-  module _ {w n : ℕ} {c : Cursor} {e : ExprWord} (a : r ≡ Word w c) (x : e ≡ exprAt w) (g : (w : ℕ) → e ≡ exprAt w → n ≡ wordCheck waiting w) where
-    pub checking-refused : (n ≡ 0 → ⊥) → n ≡ bodyCheck (getD (words s) 0 0) (drop 1 (words s))
+  module _ {w n : ℕ} {c : Cursor} {e : ExprWord} (a : r ≡ Word w c) (x : e ≡ exprAt w) (g : (w : ℕ) → e ≡ exprAt w → n ≡ wordCheck mostWaiting waiting w) where
+    pub checking-refused : (n ≡ 0 → ⊥) → n ≡ bodyCheck mostWaiting (getD (words s) 0 0) (drop 1 (words s))
     checking-refused z = refused-first _ _ z (scanning-refused (f .scanning) q a (g w x) z)
 
     module _ (z : n ≡ 0) where
@@ -114,7 +115,7 @@ module _ {s : List ℕ} {waiting count k : ℕ} {r : Step} (f : Checking s waiti
         pub waits-fits : Fits w32 (waiting - t + 1)
         waits-fits = rw (y w x (right .0)) (let l = right .1 .1 in omega arith)
 
-        scanned : Scanning wordCheck waits endCheck s (scan 0 (drop 1 (words s))) (waiting - t + 1) (c .at)
+        scanned : Scanning (wordCheck mostWaiting) waits endCheck s (scan mostWaiting 0 (drop 1 (words s))) (waiting - t + 1) (c .at)
         scanned = scanning-more (f .scanning) q a (g w x) z (rw (y w x (right .0), add-one))
 
         module _ {b : Bool} (l : (w : ℕ) → e ≡ exprAt w → exprCheck w ≡ 0 → b ≡ isLabel w) where
@@ -129,5 +130,5 @@ module _ {s : List ℕ} {waiting count k : ℕ} {r : Step} (f : Checking s waiti
 
   -- the last was read, h is the header, and m and n are what is left to check
   pub checking-last : {h l m n o : ℕ} → r ≡ End → h ≡ getD (words s) 0 0 → l ≡ labelsOf h → m ≡ endCheck waiting → n ≡ (9 unless eqb count l) → o ≡ (m then n)
-      → o ≡ bodyCheck (getD (words s) 0 0) (drop 1 (words s))
+      → o ≡ bodyCheck mostWaiting (getD (words s) 0 0) (drop 1 (words s))
   checking-last a d e i j u = u ∙ rw (scanning-last (f .scanning) q a i, j, counting-last (f .counting) q a, e, d)

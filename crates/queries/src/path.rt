@@ -4,6 +4,7 @@ use files::cursor::Step;
 use files::expr::ExprWord;
 use files::expr::read_expr;
 use files::field::labels;
+use files::limits::MOST_WAITING;
 use files::limits::PATH_WORDS;
 use files::refuse::check_file;
 use files::refuse::choose;
@@ -18,12 +19,12 @@ ghost use lib.Dec.{leb};
 ghost use lib.ListN.{getD, drop};
 ghost use Rattle.files.specs.Word.{words};
 ghost use Rattle.files.specs.Refuse.{_then_, _unless_, sizeCheck};
-ghost use Rattle.files.specs.Path.{isLabel, mostWaiting, takes as takesOf, wordCheck, bodyCheck, pathCheck};
+ghost use Rattle.files.specs.Path.{isLabel, takes as takesOf, wordCheck, bodyCheck, pathCheck};
 ghost use Rattle.files.specs.Expr.{exprCheck, exprAt};
-ghost use Rattle.files.specs.Limits.{pathWords};
+ghost use Rattle.files.specs.Limits.{pathWords, mostWaiting};
 
-// The most operands that wait at any word.
-const MOST_WAITING: u32 = 16;
+// As wide as the count of those that wait.
+const MOST: u32 = MOST_WAITING as u32;
 
 // The operands that an operator takes.
 fn operands(op: u32) -> u32
@@ -60,12 +61,12 @@ fn check_waiting(waiting: u32, taken: u32) -> u32
     if waiting < taken {
         return 9;
     }
-    refuse(9, waiting - taken < MOST_WAITING)
+    refuse(9, waiting - taken < MOST)
 }
 
 // 5: no expression word; then 9.
 fn check_word(waiting: u32, e: ExprWord) -> u32
-    ensures { λ r. ⌜ ((w : ℕ) → e ≡ exprAt w → r ≡ wordCheck waiting w) ⌝ }
+    ensures { λ r. ⌜ ((w : ℕ) → e ≡ exprAt w → r ≡ wordCheck mostWaiting waiting w) ⌝ }
 {
     if let ExprWord::Wrong = e {
         return 5;
@@ -75,7 +76,7 @@ fn check_word(waiting: u32, e: ExprWord) -> u32
 
 // The words after the header; at their end one operand waits, and the labels were as many as the header says.
 fn check_body(bytes: &[u8]) -> u32
-    ensures { λ r. ⌜ r ≡ bodyCheck (getD (words (now (bytes .entry))) 0 0) (drop 1 (words (now (bytes .entry)))) ⌝ }
+    ensures { λ r. ⌜ r ≡ bodyCheck mostWaiting (getD (words (now (bytes .entry))) 0 0) (drop 1 (words (now (bytes .entry)))) ⌝ }
 {
     let n = labels(word_at(bytes, 0)) as usize;
     let mut waiting = 0;

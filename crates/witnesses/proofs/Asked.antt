@@ -1,16 +1,18 @@
 -- The demands are not empty. Every accepted whole file, cut list and path, as bytes, gives demand 3's givens: the plant that the file holds, and
 -- the parts that the cutter makes of it. Document 01's own W, P and cut are one, and their question is run. Assumes nothing.
 use mathlib.Core.Path.{_≡_, refl}
-use mathlib.Core.Bool.{not}
-use mathlib.Core.List.{List, [], _∷_, map, flatten}
+use mathlib.Core.Bool.{Bool, not, _&&_}
+use mathlib.Core.List.{List, [], _∷_, map, flatten, Memᴰ·of-map}
 use Prim.Native.Nat.{ℕ, _^_, _≤_}
 use native.Mathlib.Omega.{arith}
-use lib.Dec.{T, ltb, ltb→lt, lit≤}
-use lib.ListN.{length}
-use Rattle.sets.specs.Sets.{Perm, any, setOf}
+use lib.Dec.{T, eqb, leb, ltb, ltb→lt, lit≤}
+use lib.ListN.{length, length-map}
+use Rattle.sets.specs.Sets.{Mem, Perm, any, setOf}
 use Rattle.sets.specs.Reach.{closure}
+use Rattle.sets.proofs.Tests.{and-iff, le-iff, eq-iff}
 use Rattle.sets.proofs.Filter.{all-iff}
-use Rattle.sets.proofs.Perm.{perm-refl}
+use Rattle.sets.proofs.Lengths.{flatten-length}
+use Rattle.sets.proofs.Perm.{perm-refl, perm-same, perm-length}
 use Rattle.files.specs.Word.{words, bytesOf}
 use Rattle.files.specs.Refuse.{_then_, sizeCheck}
 use Rattle.files.specs.Outcome.{accepted}
@@ -23,6 +25,7 @@ use Rattle.walks.specs.Product.{stepIn, reached, answers}
 use Rattle.first_replies.specs.FirstReply.{reported, doorWords, firstReply}
 use Rattle.site_first.specs.First.{firstReplyCall}
 use Rattle.site_second.specs.Second.{secondReply, secondReplyCall}
+use Rattle.site_second.proofs.SecondReplies.{second-length}
 use Rattle.hub_calls.specs.CallList.{called, callList, callListCall}
 use Rattle.hub_join.specs.Join.{joined, joinCall}
 use Rattle.cutter.specs.Cut.{cut, cutCall}
@@ -35,7 +38,7 @@ use Rattle.demands.specs.Question.{Buffers, Room, going, ask}
 use Rattle.demands.specs.Demand.{Asked, Put, SmallBundles, Claim, Enough, question}
 use Rattle.demands.proofs.PlantOf.{plant-one-root, plant-closed}
 use Rattle.demands.proofs.Cutter.{true-cut, some-part, few-parts}
-use Rattle.demands.proofs.Owed.{owed}
+use Rattle.demands.proofs.Owed.{firstOf, secondOf, list, owed}
 use Rattle.demands.proofs.Demand.{demand-3}
 
 -- the givens, by words
@@ -97,12 +100,26 @@ module _ (whole cuts path : List ℕ) (whole-bytes : Bytes whole) (path-bytes : 
   unfolding givens
   givens-parts = refl
 
-pub words-by-test : (f : List ℕ) → T (not (any (λ w. not (ltb w (2 ^ 32))) f)) → Words f
+abbrev pub allWords : List ℕ → Bool
+allWords f = not (any (λ w. not (ltb w (2 ^ 32))) f)
+
+pub words-by-test : (f : List ℕ) → T (allWords f) → Words f
 words-by-test f t w m = ltb→lt w (2 ^ 32) (all-iff (λ w. ltb w (2 ^ 32)) f .0 t w m)
+
+-- the givens, by a test of a whole file, a cut list and a path
+abbrev pub askable : (f cuts p : List ℕ) → Bool
+askable f cuts p =
+    (allWords f && leb (length f) 4096 && eqb (wholeCheck f) 0 && eqb (cutCheck (body f) cuts 0) 0)
+    && (allWords p && leb (length p) 64 && eqb (pathCheck p) 0)
+
+abbrev pub asked-by-test : (f cuts p : List ℕ) → T (askable f cuts p) → Asked
+asked-by-test f cuts p t =
+    let ((((u, few), c), d), ((v, short), r)) = simp (and-iff, le-iff, eq-iff) at t in
+    asked f cuts p (words-by-test f u) few c 0 d (words-by-test p v) short r
 
 -- document 01's end-to-end files
 abbrev pub example : Asked
-example = asked whole (0 ∷ 1 ∷ 0 ∷ []) path (words-by-test whole tt) (lit≤ tt) refl 0 refl (words-by-test path tt) (lit≤ tt) refl
+example = asked-by-test whole (0 ∷ 1 ∷ 0 ∷ []) path tt
 
 -- the example's parts are the document's
 pub example-parts : example .parts ≡ part0 ∷ part1 ∷ []
@@ -138,10 +155,26 @@ pub example-run : question example examplePut ≡ going (record { seconds = b se
 unfolding ask flatten closure stepIn reached answers reported doorWords firstReply firstReplyCall secondReply secondReplyCall called callList callListCall joined joinCall cut
 example-run = refl
 
--- demand 3 says something of the example
-pub example-small : SmallBundles example examplePut (owed example examplePut)
-unfolding owed flatten closure stepIn reached answers reported doorWords firstReply secondReply called callList cut
-example-small = record { first = λ h. lit≤ tt; second = λ h. lit≤ tt }
+-- at most two sites never make a bundle that is over its limit
+pub two-small : (q : Asked) (u : Put q) → length (q .parts) ≤ 2 → SmallBundles q u (owed q u)
+unfolding owed
+two-small q u few = record {
+  first = λ h. omega (arith, small (firstOf q) (u .order) (perm-length (u .once)) (λ f m. h f (perm-same (u .once) .0 f m)));
+  second = λ n. omega (
+    arith,
+    small (secondOf q (list q u)) (u .order′) (perm-length (u .once′)) (λ f m.
+        let k = q .cut .part f (perm-same (u .once′) .0 f m) in omega (arith, second-length f (q .path) (list q u) (k .2), k .1)),
+  );
+}
+  where
+    small : (write : List ℕ → List ℕ) (fs : List (List ℕ)) → length fs ≡ length (q .parts) → ((f : List ℕ) → Mem f fs → length (write f) ≤ 4096)
+        → length (flatten (map write fs)) ≤ 8192
+    small write fs e h =
+        omega (arith, length-map fs write, flatten-length 4096 (map write fs) (λ r m. let (f, i, k) = Memᴰ·of-map write fs m in rw (← k) (h f i)))
+
+-- so demand 3 speaks of every question with at most two sites
+pub two-claim : (q : Asked) (u : Put q) → length (q .parts) ≤ 2 → Claim q u (owed q u)
+two-claim q u few = demand-3 .claim q u (owed q u) (two-small q u few)
 
 pub example-claim : Claim example examplePut (owed example examplePut)
-example-claim = demand-3 .claim example examplePut (owed example examplePut) example-small
+example-claim = two-claim example examplePut (lit≤ tt)

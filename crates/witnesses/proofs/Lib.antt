@@ -6,3 +6,4 @@ pub mod Over
 pub mod BothSearches
 pub mod StoppedNodes
 pub mod OutsideLabels
+pub mod WaitingOperands

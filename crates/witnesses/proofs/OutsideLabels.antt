@@ -21,12 +21,10 @@ use Rattle.cutter.specs.Cut.{cut}
 use Rattle.demands.specs.Question.{ask}
 use Rattle.demands.specs.Demand.{Asked, Claim}
 use Rattle.demands.proofs.Owed.{owed}
-use Rattle.demands.proofs.Demand.{demand-3}
-use Rattle.table.specs.Table.{whole, part0, part1, first0, first1, calls, second0, second1, final, b}
-use Rattle.witnesses.proofs.Asked.{asked, words-by-test, inTurn}
+use Rattle.table.specs.Table.{whole, final}
+use Rattle.witnesses.proofs.Asked.{asked-by-test, inTurn, two-claim}
 use Rattle.witnesses.proofs.Vectors.{onPath}
-use Rattle.witnesses.proofs.TwoSites.{two-small}
-use Rattle.witnesses.proofs.BothSearches.{none, only, BothGive, apart}
+use Rattle.witnesses.proofs.BothSearches.{none, only, OwnFiles, BothGive, apart}
 
 -- which labels a word of sort 2 holds: both ends, and one past each
 pub outside-labels : (map (holds 0x52006005) (0 ∷ 4 ∷ 5 ∷ 6 ∷ 7 ∷ 4095 ∷ []) ≡ true ∷ true ∷ false ∷ false ∷ true ∷ true ∷ [])
@@ -62,11 +60,7 @@ abbrev pub others : List ℕ
 others = 0x40300007 ∷ 0x52006006 ∷ 0x52005005 ∷ 0x52006006 ∷ 0x60000001 ∷ 0x60000003 ∷ 0x60000001 ∷ []
 
 -- so every file is the document's own
-pub outside-files :
-    (firstReplyCall 16384 32768 (b part0) (b others) ≡ accepted first0)
-    × (firstReplyCall 16384 32768 (b part1) (b others) ≡ accepted first1)
-    × (secondReplyCall 16384 32768 (b part0) (b others) (b calls) ≡ accepted second0)
-    × (secondReplyCall 16384 32768 (b part1) (b others) (b calls) ≡ accepted second1)
+pub outside-files : OwnFiles others
 unfolding flatten closure stepIn reached answers reported doorWords firstReply firstReplyCall secondReply secondReplyCall
 outside-files = (refl, refl, refl, refl)
 
@@ -83,7 +77,7 @@ both-outside = ((refl, refl), (refl, refl), (refl, refl), (refl, refl), (refl, r
 
 -- demand 3 speaks of such a path
 abbrev pub othersAsked : Asked
-othersAsked = asked whole apart others (words-by-test whole tt) (lit≤ tt) refl 0 refl (words-by-test others tt) (lit≤ tt) refl
+othersAsked = asked-by-test whole apart others tt
 
 pub others-claim : Claim othersAsked (inTurn othersAsked) (owed othersAsked (inTurn othersAsked))
-others-claim = demand-3 .claim othersAsked (inTurn othersAsked) (owed othersAsked (inTurn othersAsked)) (two-small othersAsked (inTurn othersAsked) (lit≤ tt))
+others-claim = two-claim othersAsked (inTurn othersAsked) (lit≤ tt)

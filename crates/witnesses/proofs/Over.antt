@@ -16,10 +16,9 @@ use Rattle.first_replies.specs.FirstReply.{reported, doorWords, firstReply}
 use Rattle.demands.specs.Question.{first, stopped}
 use Rattle.demands.specs.Demand.{AcceptedPath, Asked, Put, question, inOrder, First, at-once, later, Over}
 use Rattle.demands.proofs.Owed.{owed}
-use Rattle.demands.proofs.Demand.{demand-3}
-use Rattle.witnesses.proofs.Asked.{words-by-test, asking}
-use Rattle.witnesses.proofs.Vectors.{ors, stars, edgesTo, doorsTo, fullRanges, dear}
-use Rattle.witnesses.proofs.TwoSites.{Site, site-accepted, two, two-small}
+use Rattle.witnesses.proofs.Asked.{words-by-test, asking, two-claim}
+use Rattle.witnesses.proofs.Vectors.{ors, stars, orOf, edgesTo, doorsTo, fullRanges, dear}
+use Rattle.witnesses.proofs.TwoSites.{Site, site-accepted, two}
 
 -- row 15's two doors with their nine targets each, and the site of the targets, the first of them the root
 unfoldable pub row15 : List ℕ
@@ -38,7 +37,7 @@ unfolding targets
 targets-is = record { word = tt; short = tt; read = refl; site-is = refl; above = tt; below = tt; roots-are = refl; doors-are = refl; crosses = tt }
 
 pub ranges-accepted : AcceptedPath fullRanges
-unfolding fullRanges ors stars
+unfolding fullRanges ors stars orOf
 ranges-accepted = (words-by-test fullRanges tt, lit≤ tt, refl)
 
 abbrev pub over : Asked
@@ -49,7 +48,7 @@ abbrev pub overPut : Put over
 overPut = asking over (targets ∷ row15 ∷ []) (row15 ∷ targets ∷ []) (perm-swap refl refl) (perm-refl (over .parts))
 
 targets-short : length (firstReply targets fullRanges) ≡ 10
-unfolding targets fullRanges ors stars flatten closure stepIn reached reported doorWords firstReply
+unfolding targets fullRanges ors stars orOf flatten closure stepIn reached reported doorWords firstReply
 targets-short = refl
 
 row15-over : length (firstReply row15 fullRanges) ≡ 4355
@@ -65,4 +64,4 @@ over-first = later {d = first (bytesOf targets)}
 
 -- row 15's call ends the question
 pub over-stops : question over overPut ≡ stopped (first (bytesOf row15)) 15
-over-stops = demand-3 .claim over overPut (owed over overPut) (two-small over overPut (omega arith)) .stops (first (bytesOf row15)) 15 .1 (over-first, refl)
+over-stops = two-claim over overPut (omega arith) .stops (first (bytesOf row15)) 15 .1 (over-first, refl)

@@ -21,11 +21,9 @@ use Rattle.cutter.specs.Cut.{cut, cutCall}
 use Rattle.demands.specs.Question.{ask}
 use Rattle.demands.specs.Demand.{Asked, Claim}
 use Rattle.demands.proofs.Owed.{owed}
-use Rattle.demands.proofs.Demand.{demand-3}
 use Rattle.table.specs.Table.{whole, path, part1, first1, second0, final, b}
-use Rattle.witnesses.proofs.Asked.{asked, words-by-test, inTurn}
+use Rattle.witnesses.proofs.Asked.{asked-by-test, inTurn, two-claim}
 use Rattle.witnesses.proofs.BothSearches.{none, only, BothGive, apart, together}
-use Rattle.witnesses.proofs.TwoSites.{two-small}
 
 -- W with its node 3 stopped, and with its root stopped
 abbrev pub halted : List ℕ
@@ -99,7 +97,7 @@ halted-door = let r = first-reply haltedPart path refl refl in (r, r .each-door 
 
 -- demand 3 speaks of such a plant
 abbrev pub haltedAsked : Asked
-haltedAsked = asked halted apart path (words-by-test halted tt) (lit≤ tt) refl 0 refl (words-by-test path tt) (lit≤ tt) refl
+haltedAsked = asked-by-test halted apart path tt
 
 pub halted-claim : Claim haltedAsked (inTurn haltedAsked) (owed haltedAsked (inTurn haltedAsked))
-halted-claim = demand-3 .claim haltedAsked (inTurn haltedAsked) (owed haltedAsked (inTurn haltedAsked)) (two-small haltedAsked (inTurn haltedAsked) (lit≤ tt))
+halted-claim = two-claim haltedAsked (inTurn haltedAsked) (lit≤ tt)

@@ -3,31 +3,27 @@
 use mathlib.Core.Path.{_≡_, refl, sym, subst}
 use mathlib.Core.Bool.{not}
 use mathlib.Core.Logic.{inl, inr}
-use mathlib.Core.List.{List, [], _∷_, _++_, map, flatten, Memᴰ·of-map, Memᴰ·append-left, Memᴰ·append-right, List·Memᴰ·eq-of-singleton, List·Memᴰ·append-cases}
-use Prim.Native.Nat.{ℕ, _^_, _≤_, _<_}
+use mathlib.Core.List.{List, [], _∷_, _++_, Memᴰ·append-left, Memᴰ·append-right, List·Memᴰ·eq-of-singleton, List·Memᴰ·append-cases}
+use Prim.Native.Nat.{ℕ, _≤_, _<_}
 use native.Mathlib.Omega.{arith}
 use lib.Dec.{T, leb, ltb, leb→le, ltb→lt}
-use lib.ListN.{length, getD, length-map}
+use lib.ListN.{length, getD}
 use Rattle.sets.specs.Sets.{Mem, here, there, filter, any, member}
 use Rattle.sets.proofs.Sets.{filter-iff, member-iff}
 use Rattle.sets.proofs.Filter.{all-iff}
-use Rattle.sets.proofs.Lengths.{flatten-length}
-use Rattle.sets.proofs.Perm.{perm-same, perm-length}
 use Rattle.files.specs.Field.{siteOf, targetOf}
 use Rattle.files.specs.Part.{isEdge, nodes, roots, doors, partCheck}
 use Rattle.files.proofs.Blocks.{edge-of, doors-nodes}
-use Rattle.site_second.proofs.SecondReplies.{second-length}
 use Rattle.demands.specs.Plant.{Plant, OneRoot, Closed, HasEdge, AcceptedPart, TrueCut, body}
 use Rattle.demands.specs.PlantOf.{plantOfParts}
-use Rattle.demands.specs.Demand.{AcceptedPath, Asked, Put, SmallBundles}
+use Rattle.demands.specs.Demand.{AcceptedPath, Asked}
 use Rattle.demands.proofs.PlantOf.{parts-cut}
 use Rattle.demands.proofs.Cutter.{some-part, few-parts}
-use Rattle.demands.proofs.Owed.{firstOf, secondOf, list, owed}
-use Rattle.witnesses.proofs.Asked.{words-by-test}
+use Rattle.witnesses.proofs.Asked.{allWords, words-by-test}
 
 -- a part with nodes from `low` on and below `high`, its roots and its doors, whose links all end at doors of the other site
 pub record Site (f : List ℕ) (site low high : ℕ) (rooted offered beyond : List ℕ) : Type 0 where
-  pub word : T (not (any (λ w. not (ltb w (2 ^ 32))) f))
+  pub word : T (allWords f)
   pub short : T (leb (length f) 4096)
   pub read : partCheck f ≡ 0
   pub site-is : siteOf (getD f 0 0) ≡ site
@@ -123,20 +119,3 @@ module _ (left right : List ℕ) {mid high root : ℕ} {rooted rooted′ offered
     path = path;
     path-accepted = ok;
   }
-
--- two sites never make a bundle that is over its limit
-pub two-small : (q : Asked) (u : Put q) → length (q .parts) ≤ 2 → SmallBundles q u (owed q u)
-unfolding owed
-two-small q u few = record {
-  first = λ h. omega (arith, small (firstOf q) (u .order) (perm-length (u .once)) (λ f m. h f (perm-same (u .once) .0 f m)));
-  second = λ n. omega (
-    arith,
-    small (secondOf q (list q u)) (u .order′) (perm-length (u .once′)) (λ f m.
-        let k = q .cut .part f (perm-same (u .once′) .0 f m) in omega (arith, second-length f (q .path) (list q u) (k .2), k .1)),
-  );
-}
-  where
-    small : (write : List ℕ → List ℕ) (fs : List (List ℕ)) → length fs ≡ length (q .parts) → ((f : List ℕ) → Mem f fs → length (write f) ≤ 4096)
-        → length (flatten (map write fs)) ≤ 8192
-    small write fs e h =
-        omega (arith, length-map fs write, flatten-length 4096 (map write fs) (λ r m. let (f, i, k) = Memᴰ·of-map write fs m in rw (← k) (h f i)))

@@ -34,10 +34,10 @@ unfoldable pub onPath : List ℕ → Outcome
 onPath p = firstReplyCall 16384 32768 (b (0x10000001 ∷ [])) (b p)
 
 -- n label words, empty words, ors, stars
-labels : ℕ → List ℕ
+unfoldable pub labels : ℕ → List ℕ
 labels n = replicate n 0x50005005
 
-empties : ℕ → List ℕ
+unfoldable pub empties : ℕ → List ℕ
 empties n = replicate n 0x60000000
 
 unfoldable pub ors : ℕ → List ℕ
@@ -46,16 +46,18 @@ ors n = replicate n 0x60000002
 unfoldable pub stars : ℕ → List ℕ
 stars n = replicate n 0x60000003
 
+-- an or of the label word w with itself, n times: each or is right behind its second operand, so two wait at most
+unfoldable pub orOf : ℕ → ℕ → List ℕ
+orOf w zero = w ∷ []
+orOf w (suc n) = orOf w n ++ w ∷ ors 1
+
 paths :
-    -- 16 operands wait, and 17
-    (onPath (0x40f00020 ∷ labels 15 ++ empties 1 ++ ors 15) ≡ accepted (0x70f00001 ∷ []))
-    × (onPath (0x40f00022 ∷ labels 15 ++ empties 2 ++ ors 16) ≡ refused 9)
     -- 64 words, and 65
-    × (onPath (0x40100040 ∷ labels 1 ++ stars 62) ≡ accepted (0x70100001 ∷ []))
+    (onPath (0x40100040 ∷ labels 1 ++ stars 62) ≡ accepted (0x70100001 ∷ []))
     × (onPath (0x40100041 ∷ labels 1 ++ stars 63) ≡ refused 2)
     -- 15 labels, and 16
-    × (onPath (0x40f0001e ∷ labels 15 ++ ors 14) ≡ accepted (0x70f00001 ∷ []))
-    × (onPath (0x40f00020 ∷ labels 16 ++ ors 15) ≡ refused 9)
+    × (onPath (0x40f0001e ∷ orOf 0x50005005 14) ≡ accepted (0x70f00001 ∷ []))
+    × (onPath (0x40f00020 ∷ orOf 0x50005005 15) ≡ refused 9)
     -- n is counted at the end: a wrong word behind the label words shows first
     × (onPath (0x40200002 ∷ labels 1) ≡ refused 9)
     × (onPath (0x40000003 ∷ labels 1 ++ 0x60000004 ∷ []) ≡ refused 5)
@@ -73,8 +75,8 @@ paths :
     × (onPath (0x41000002 ∷ 0x60000000 ∷ []) ≡ refused 3)
     -- the empty word lists the root alone
     × (oldSearchCall 32768 32768 (b whole) (b (0x40000002 ∷ 0x60000000 ∷ [])) ≡ accepted (0xf0000002 ∷ 0xe0000001 ∷ []))
-unfolding flatten closure stepIn reached answers reported doorWords firstReply firstReplyCall listed oldSearchCall onPath labels empties ors stars
-paths = (refl, refl, refl, refl, refl, refl, refl, refl, refl, refl, refl, refl, refl, refl, refl, refl, refl, refl)
+unfolding flatten closure stepIn reached answers reported doorWords firstReply firstReplyCall listed oldSearchCall onPath labels ors stars orOf
+paths = (refl, refl, refl, refl, refl, refl, refl, refl, refl, refl, refl, refl, refl, refl, refl, refl)
 
 -- Parts: each word's checks before the next word's; and the order of the checks at one word
 onPart : List ℕ → Outcome
@@ -210,11 +212,11 @@ unfoldable pub doorsTo : ℕ → List ℕ
 doorsTo n = 0x20010000 ∷ edgesTo n ++ 0x20010001 ∷ edgesTo n
 
 unfoldable pub fullRanges : List ℕ
-fullRanges = 0x40f0001f ∷ replicate 15 0x50fff000 ++ ors 14 ++ stars 1
+fullRanges = 0x40f0001f ∷ orOf 0x50fff000 14 ++ stars 1
 
 pub dear : (length (firstReply (0x10000015 ∷ doorsTo 9) fullRanges) ≡ 4355)
     × (length (firstReply (0x10000013 ∷ doorsTo 8) fullRanges) ≡ 3875)
-unfolding flatten closure stepIn reached reported doorWords firstReply edgesTo doorsTo fullRanges ors stars
+unfolding flatten closure stepIn reached reported doorWords firstReply edgesTo doorsTo fullRanges ors stars orOf
 dear = (refl, refl)
 
 -- Of two inputs the first one's number stands: part or whole, cut list, path, call list; and a call list against the path before that against the

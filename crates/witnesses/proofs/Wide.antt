@@ -30,10 +30,9 @@ use Rattle.demands.specs.Plant.{HasEdge, Fits, body}
 use Rattle.demands.specs.Question.{Call, going, Answer}
 use Rattle.demands.specs.Demand.{Asked, Put, Right, question, Over, NoneOver, Claim}
 use Rattle.demands.proofs.Owed.{list, owed}
-use Rattle.demands.proofs.Demand.{demand-3}
 use Rattle.table.specs.Table.{path}
-use Rattle.witnesses.proofs.Asked.{words-by-test, asking}
-use Rattle.witnesses.proofs.TwoSites.{Site, site-accepted, both, apart, two, only-root, two-small}
+use Rattle.witnesses.proofs.Asked.{words-by-test, asking, two-claim}
+use Rattle.witnesses.proofs.TwoSites.{Site, site-accepted, both, apart, two, only-root}
 
 -- n nodes from x on, no doors and without links
 unfoldable pub lone : ℕ → ℕ → List ℕ
@@ -122,7 +121,7 @@ further-door = (
 )
 
 pub wide-claim : Claim wide widePut (owed wide widePut)
-wide-claim = demand-3 .claim wide widePut (owed wide widePut) (two-small wide widePut (omega arith))
+wide-claim = two-claim wide widePut (omega arith)
 
 -- nothing that is owed is over its limit, so the question goes on to the end, and its list is demand 2's
 wide-firsts : (length (firstReply left path) ≡ 14) × (length (firstReply right path) ≡ 8)

@@ -1,6 +1,6 @@
-//! Document 01 evaluated, with labels outside a range (request 1) and stopped nodes (request 7): every call as a function from bytes and
-//! buffer lengths to a refusal or the result's words. It is written from the documents alone, for plainness and not for speed, and shares no
-//! method with the library where they leave a choice.
+//! Document 01 evaluated, with labels outside a range (request 1), stopped nodes (request 7) and eight operands waiting at most (request 9):
+//! every call as a function from bytes and buffer lengths to a refusal or the result's words. It is written from the documents alone, for
+//! plainness and not for speed, and shares no method with the library where they leave a choice.
 
 pub mod hub;
 pub mod meaning;

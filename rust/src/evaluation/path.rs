@@ -2,6 +2,9 @@
 
 use super::words::*;
 
+/// At most eight operands wait at any word.
+pub const MOST_WAITING: usize = 8;
+
 /// `Outside` has all labels but those of the range.
 #[derive(Clone, Copy, PartialEq, Eq, Debug)]
 pub enum LabelWord {
@@ -90,11 +93,20 @@ fn operator(word: u32, waiting: &mut Vec<Expression>) -> Result<(), Refusal> {
     Ok(())
 }
 
+/// Whether a word may stand with so many operands waiting before it, and so many after it.
+pub type MayStand = fn(usize, usize) -> bool;
+
 pub fn read_path(bytes: &[u8]) -> Result<Path, Refusal> {
+    read_path_by(bytes, |_, after| after <= MOST_WAITING)
+}
+
+/// A path by another rule of how many operands wait, for the mistakes.
+pub fn read_path_by(bytes: &[u8], may_stand: MayStand) -> Result<Path, Refusal> {
     let (header, words) = single_file(bytes, PATH_LIMIT, PATH)?;
     let mut labels = vec![];
     let mut waiting = vec![];
     for word in words {
+        let before = waiting.len();
         match kind(word) {
             LABEL => {
                 labels.push(read_label(word)?);
@@ -103,8 +115,8 @@ pub fn read_path(bytes: &[u8]) -> Result<Path, Refusal> {
             OPERATOR => operator(word, &mut waiting)?,
             _ => return refuse(5, "neither label nor operator"),
         }
-        if waiting.len() > 16 {
-            return refuse(9, "17 waiting");
+        if !may_stand(before, waiting.len()) {
+            return refuse(9, "9 waiting");
         }
     }
     if waiting.len() != 1 {

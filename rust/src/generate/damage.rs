@@ -1,5 +1,6 @@
 //! Damage to files, aimed so that every check is met.
 
+use crate::evaluation::path::MOST_WAITING;
 use crate::evaluation::words::*;
 use crate::random::Random;
 
@@ -133,14 +134,14 @@ pub fn damage_path(random: &mut Random, words: &mut Vec<u32>) {
     match random.below(9) {
         0 => {
             let at = random.between(1, words.len());
-            words.splice(at..at, vec![OPERATOR << 28; random.between(1, 17)]);
+            words.splice(at..at, vec![OPERATOR << 28; random.between(1, MOST_WAITING + 1)]);
         }
         1 => words.push(random.pick(&[OPERATOR << 28, LABEL << 28])),
         2 => words[0] ^= 1 << random.between(20, 23),
         3 => words.push(OPERATOR << 28 | random.between(1, 3) as u32),
         // one waits already, and all are taken up again, so that the number waiting is the only fault
         4 => {
-            let count = random.between(15, 16);
+            let count = random.between(MOST_WAITING - 1, MOST_WAITING);
             words.extend([vec![OPERATOR << 28; count], vec![OPERATOR << 28 | 1; count]].concat());
         }
         5 => {

@@ -1,5 +1,6 @@
 //! Random paths, as words with their header.
 
+use crate::evaluation::path::MOST_WAITING;
 use crate::evaluation::words::{file, LABEL, OPERATOR, PATH};
 use crate::random::Random;
 
@@ -80,7 +81,8 @@ pub fn path(random: &mut Random, alphabet: &[u32], operands: usize) -> Vec<u32> 
     let eager = random.between(20, 90);
     let empties = random.pick(&[0, 5, 30]);
     while left > 0 || waiting > 1 {
-        let push = waiting == 0 || left > 0 && waiting < 16 && (waiting == 1 || random.chance(eager));
+        let may_push = left > 0 && waiting < MOST_WAITING;
+        let push = waiting == 0 || may_push && (waiting == 1 || random.chance(eager));
         if push {
             let empty = n == 15 || random.chance(empties);
             words.push(if empty { EMPTY } else { label_word(random, alphabet) });
