@@ -1,5 +1,7 @@
-//! The six calls of the library beside plain Rust versions of the same algorithms, and beside better ones where such are known.
+//! The nine calls of the library beside plain Rust versions of the same algorithms, and beside better ones where such are known.
 mod best;
+#[path = "../rust/src/calls.rs"]
+mod calls;
 mod climb;
 mod inputs;
 mod library;
@@ -8,13 +10,16 @@ mod table;
 mod timing;
 mod words;
 
-use table::Call;
+use table::{Call, BEST, UNGROUPED};
 
+/// The third version of a grouped call is the call without groups, on the same input: its groups are ours.
 fn calls() -> Vec<Call> {
     use best as b;
     use library as l;
     use plain as p;
-    let call = |name, limit, shapes, versions| Call { name, limit, shapes, versions };
+    let call = |name, limit, shapes, versions| Call { name, limit, shapes, versions, last: BEST };
+    let grouped = |name, shape, versions| Call { name, limit: 4096, shapes: vec![shape], versions, last: UNGROUPED };
+    let [old, first, second] = [inputs::old_search_of_groups(), inputs::first_reply_of_groups(), inputs::second_reply_of_groups()];
     vec![
         call("old search", 4096, inputs::old_search(), vec![l::old_search, p::old_search, b::old_search]),
         call("cutter", 4096, inputs::cut(), vec![l::cut, p::cut]),
@@ -22,6 +27,9 @@ fn calls() -> Vec<Call> {
         call("call list", 8192, inputs::call_list(), vec![l::call_list, p::call_list, b::call_list]),
         call("second reply", 4096, inputs::second_reply(), vec![l::second_reply, p::second_reply, b::second_reply]),
         call("join", 8192, inputs::join(), vec![l::join, p::join]),
+        grouped("old search, grouped", old, vec![l::old_search_grouped, p::old_search_grouped, l::old_search]),
+        grouped("first reply, grouped", first, vec![l::first_reply_grouped, p::first_reply_grouped, l::first_reply]),
+        grouped("second reply, grouped", second, vec![l::second_reply_grouped, p::second_reply_grouped, l::second_reply]),
     ]
 }
 
@@ -33,8 +41,8 @@ fn search(seconds: f64) {
             let (name, start, library) = (format!("{}, {}", call.name, shape.name), (shape.make)(size), call.versions[0]);
             match call.name {
                 "call list" => climb::climb::<climb::Bundle>(&name, library, &start, seconds),
-                "cutter" | "join" => {}
-                _ => climb::climb::<climb::Plant>(&name, library, &start, seconds),
+                "old search" | "first reply" | "second reply" => climb::climb::<climb::Plant>(&name, library, &start, seconds),
+                _ => {}
             }
         }
     }

@@ -9,9 +9,22 @@ pub struct Call {
     /// The most words of the input that grows.
     pub limit: usize,
     pub shapes: Vec<Shape>,
-    /// The library's, the plain one of the same algorithm and, where there is one, that of a better algorithm.
+    /// The library's, the plain one of the same algorithm and, where there is one, a third.
     pub versions: Vec<Version>,
+    pub last: Last,
 }
+
+/// The last column: its title, and what it says of the third version.
+pub type Last = (&'static str, fn(&[Measured]) -> String);
+
+/// A better algorithm, at the last size.
+pub const BEST: Last = ("times best known", |sizes| {
+    let ratio = sizes[sizes.len() - 1].ratios.get(2);
+    ratio.map_or("-".to_string(), |r| format!("{r:.1}"))
+});
+
+/// The library's call without groups, at all sizes. The least times are compared, as the ratio within a round hangs on which comes first.
+pub const UNGROUPED: Last = ("times without groups", |sizes| list(sizes.iter().map(|m| m.least[0] / m.least[2]), 2));
 
 impl Call {
     fn sizes(&self) -> Vec<usize> {
@@ -28,12 +41,11 @@ fn list(values: impl Iterator<Item = f64>, places: usize) -> String {
     values.map(|v| format!("{v:.places$}")).collect::<Vec<_>>().join(" ")
 }
 
-fn row(shape: &Shape, sizes: &[Measured]) {
+fn row(shape: &Shape, sizes: &[Measured], last: String) {
     let library = list(sizes.iter().map(|m| m.least[0] * 1e6), 0);
     let growth = list(sizes.windows(2).map(|m| m[1].least[0] / m[0].least[0]), 1);
     let ratio = list(sizes.iter().map(|m| m.ratios[1]), 2);
-    let best = sizes[sizes.len() - 1].ratios.get(2).map_or("-".to_string(), |r| format!("{r:.1}"));
-    println!("| {} | {library} | {growth} | {ratio} | {best} |", shape.name);
+    println!("| {} | {library} | {growth} | {ratio} | {last} |", shape.name);
 }
 
 /// What is said of a call at the end.
@@ -46,11 +58,12 @@ struct Worst {
 fn table(call: &Call) -> Worst {
     let sizes = list(call.sizes().iter().map(|&n| n as f64), 0);
     println!("\n### {}\n", call.name);
-    println!("| input | us at {sizes} words | growth per doubling | times plain | times best known |\n|---|---|---|---|---|");
+    let (title, last) = call.last;
+    println!("| input | us at {sizes} words | growth per doubling | times plain | {title} |\n|---|---|---|---|---|");
     let mut worst = Worst { ratio: 0.0, seconds: 0.0, shape: "" };
     for shape in &call.shapes {
         let sizes = call.measured(shape);
-        row(shape, &sizes);
+        row(shape, &sizes, last(&sizes));
         worst.ratio = sizes.iter().map(|m| m.ratios[1]).fold(worst.ratio, f64::max);
         let seconds = sizes[sizes.len() - 1].least[0];
         if seconds > worst.seconds {

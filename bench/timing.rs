@@ -45,6 +45,15 @@ impl Buffers {
         let number = version(ask, &mut self.out, &mut self.work);
         (now() - start, number)
     }
+
+    /// The seconds of one call, on average over so many.
+    fn repeated(&mut self, version: Version, ask: &Ask, count: usize) -> f64 {
+        let start = now();
+        for _ in 0..count {
+            version(ask, &mut self.out, &mut self.work);
+        }
+        (now() - start) / count as f64
+    }
 }
 
 /// The seconds of each version of a call in each round.
@@ -86,18 +95,15 @@ fn compare(versions: &[Version], ask: &Ask, name: &str) -> Vec<f64> {
     times
 }
 
-/// The seconds of each version, one after another; quick ones are repeated to fill their share of a round.
-fn round(versions: &[Version], ask: &Ask, about: &[f64], buffers: &mut Buffers) -> Vec<f64> {
+/// The seconds of each version, one after another, or backward; quick ones are repeated to fill their share of a round.
+fn round(versions: &[Version], ask: &Ask, about: &[f64], buffers: &mut Buffers, backward: bool) -> Vec<f64> {
     let share = BUDGET / (ROUNDS * versions.len()) as f64;
-    let time = |(&version, about): (&Version, &f64)| {
-        let repeats = ((share / about) as usize).max(1);
-        let start = now();
-        for _ in 0..repeats {
-            version(ask, &mut buffers.out, &mut buffers.work);
-        }
-        (now() - start) / repeats as f64
-    };
-    versions.iter().zip(about).map(time).collect()
+    let mut times = vec![0.0; versions.len()];
+    for place in 0..versions.len() {
+        let v = if backward { versions.len() - 1 - place } else { place };
+        times[v] = buffers.repeated(versions[v], ask, ((share / about[v]) as usize).max(1));
+    }
+    times
 }
 
 /// How many rounds calls have of which one takes so many seconds in all versions.
@@ -108,7 +114,8 @@ fn rounds_of(seconds: f64) -> usize {
     ((BUDGET / seconds) as usize).clamp(FEWEST, ROUNDS)
 }
 
-/// Measures the versions on each input. The rounds go over all inputs, so that a slow moment does not fall on one of them alone.
+/// Measures the versions on each input. The rounds go over all inputs, so that a slow moment does not fall on one of them alone, and every
+/// other one backward: of two versions that share code the second is quicker, likely because the processor knows the branches by then.
 pub fn measure(versions: &[Version], asks: &[Ask], name: &str) -> Vec<Measured> {
     let first: Vec<Vec<f64>> = asks.iter().map(|ask| compare(versions, ask, name)).collect();
     let mut rounds: Vec<Rounds> = asks.iter().map(|_| Rounds(Vec::new())).collect();
@@ -116,7 +123,7 @@ pub fn measure(versions: &[Version], asks: &[Ask], name: &str) -> Vec<Measured> 
     for r in 0..ROUNDS {
         for (i, ask) in asks.iter().enumerate() {
             if r < rounds_of(first[i].iter().sum()) {
-                rounds[i].0.push(round(versions, ask, &first[i], &mut buffers));
+                rounds[i].0.push(round(versions, ask, &first[i], &mut buffers, r % 2 == 1));
             }
         }
     }

@@ -17,9 +17,29 @@ pub const THEN: u32 = 6 << 28 | 1;
 pub const OR: u32 = 6 << 28 | 2;
 pub const STAR: u32 = 6 << 28 | 3;
 
-pub fn range(low: u32, high: u32) -> u32 {
+pub const fn range(low: u32, high: u32) -> u32 {
     5 << 28 | high << 12 | low
 }
+
+/// The labels of group g.
+pub fn group(g: u32) -> u32 {
+    5 << 28 | 1 << 24 | g
+}
+
+/// Word g has the labels of group g.
+pub type Groups = [u32; 8];
+
+/// Document 01's.
+pub const OURS: Groups = [
+    range(0, 4095),
+    range(0, 1023),
+    range(0, 255),
+    range(1024, 1535),
+    range(1536, 1791),
+    range(1792, 2047),
+    range(2048, 3071),
+    range(4032, 4095),
+];
 
 /// All labels but those of the range.
 pub fn outside(low: u32, high: u32) -> u32 {
@@ -66,6 +86,11 @@ pub fn pair_node(w: u32) -> u32 {
 
 pub fn state(w: u32) -> u32 {
     w & 15
+}
+
+/// The low and the high end of a label word with a range.
+pub fn ends(w: u32) -> (u32, u32) {
+    (w & 0xfff, w >> 12 & 0xfff)
 }
 
 /// The sort of a label word.

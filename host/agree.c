@@ -27,10 +27,13 @@ static void parse(struct sample *s, enum subject subject, const char *text)
     s->subject = subject;
     s->site = 0;
     s->cut_off = 0;
+    s->cut_file = 0;
     s->files = 1;
     s->file[0].count = 0;
     for (char *end; *text != '\0'; text = end) {
-        push(&s->file[s->files - 1], (uint32_t)strtoul(text, &end, 16));
+        uint32_t w = (uint32_t)strtoul(text, &end, 16);
+        if (end != text)
+            push(&s->file[s->files - 1], w);
         end += strspn(end, " ");
         if (*end == ';') {
             s->file[s->files++].count = 0;
@@ -47,9 +50,12 @@ static void parse(struct sample *s, enum subject subject, const char *text)
 #define FIRST_1 "71300006 80000002 90000001 a0000032 90000003 a0000032"
 #define CALL_WORDS "b0300005 c0000010 c0000021 c0000023 c0000032"
 #define STOPPED_DOOR "10000005 20030001 30050002 20050003 30050002"
+#define OURS "50fff000 503ff000 500ff000 505ff400 506ff600 507ff700 50bff800 50ffffc0"
+#define MAKERS "50005005 50006006 50006005 50fff000 50000000 50fff800 50005005 50ffffff"
+#define GROUPED "40300007 51000006 51000001 51000006 60000001 60000003 60000001"
 
 /* Document 01's table and end-to-end files, then rows of docs/DECISIONS.md on which readings differ, then stopped nodes, then labels outside a
-   range. */
+   range, then groups: ours, a press maker's, and wrong ones. */
 static const struct example {
     enum subject subject;
     uint32_t number;
@@ -115,10 +121,20 @@ static const struct example {
     {AS_PATH, 9, "40200002 52001001"},
     {AS_ASKED, 0, STOPPED_DOOR "; " BUT "; " CALL_WORDS},
     {AS_ASKED, 5, STOPPED_DOOR "; 40100002 52000fff; " CALL_WORDS},
+    {AS_GROUPS, 0, OURS "; " P},
+    {AS_GROUPS, 0, MAKERS "; " GROUPED},
+    {AS_GROUPS, 5, MAKERS "; 40100002 51000008"},
+    {AS_GROUPS, 9, MAKERS "; 40200002 51000007"},
+    {AS_GROUPS, 16, "; " P},
+    {AS_GROUPS, 16, MAKERS " 50fff000; " GROUPED},
+    {AS_GROUPS, 16, P "; " P},
+    {AS_ASKED, 0, STOPPED_DOOR "; " MAKERS "; " GROUPED "; " CALL_WORDS},
+    {AS_ASKED, 16, STOPPED_DOOR "; ; ; "},
+    {AS_ASKED, 7, "10000002 20060001; ; ; "},
 };
 
-/* Files that the damaged ones are made of, with and without stopped nodes and labels outside a range, and a path in which as many operands wait
-   as may. */
+/* Files that the damaged ones are made of, with and without stopped nodes, labels outside a range and groups, and a path in which as many operands
+   wait as may. */
 static const struct example seeds[] = {
     {AS_PART, 0, "10000005 20030001 30050002 20010003 30050002"},
     {AS_PART, 0, "1a000009 20040000 30000000 30000001 3fff0000 20070007 37ff0007 3800ffff 2005ffff"},
@@ -137,6 +153,9 @@ static const struct example seeds[] = {
     {AS_CUT, 0, HALTED "; 0 1 0"},
     {AS_ASKED, 0, "10000005 20030001 30050002 20010003 30050002; " P "; " CALL_WORDS},
     {AS_ASKED, 0, "10000003 20070001 20040002; " BUT "; b0300003 c0000010 c0000033"},
+    {AS_GROUPS, 0, OURS "; " P},
+    {AS_GROUPS, 0, MAKERS "; 40200006 51000007 60000000 60000002 50fff000 60000001"},
+    {AS_ASKED, 0, STOPPED_DOOR "; " MAKERS "; " GROUPED "; " CALL_WORDS},
 };
 
 static void copy(struct sample *to, const struct sample *from)
@@ -145,6 +164,7 @@ static void copy(struct sample *to, const struct sample *from)
     to->site = from->site;
     to->files = from->files;
     to->cut_off = from->cut_off;
+    to->cut_file = from->cut_file;
     for (int k = 0; k < from->files; k++) {
         to->file[k].count = from->file[k].count;
         memcpy(to->file[k].words, from->file[k].words, 4 * from->file[k].count);
@@ -171,16 +191,11 @@ static void swap_words(struct file *f, size_t i, size_t k)
     f->words[k] = w;
 }
 
-static bool is_cut_list(const struct sample *s, const struct file *f)
-{
-    return s->subject == AS_CUT && f == &s->file[1];
-}
-
 /* Makes the lengths right again, so that a later check is reached. */
 static void mend(struct sample *s)
 {
     for (int k = 0; k < s->files; k++)
-        if (s->file[k].count > 0 && !is_cut_list(s, &s->file[k]))
+        if (s->file[k].count > 0 && !headless(s, k))
             head(&s->file[k], s->file[k].words[0] & 0xffffc000u);
 }
 
@@ -196,13 +211,14 @@ static void damage(struct sample *s)
     size_t i = f->count == 0 ? 0 : draw((uint32_t)f->count);
     if (f->count == 0 || f->count > 60)
         return;
-    switch (draw(7)) {
+    switch (draw(8)) {
     case 0: f->words[i] ^= 1u << draw(32); break;
     case 1: f->words[i] += draw(3) - 1; break;
     case 2: f->words[i] = (f->words[i] & 0x0fffffffu) | draw(16) << 28; break;
     case 3: remove_word(f, i); break;
     case 4: insert_word(f, i, any_word(s)); break;
     case 5: swap_words(f, i, f->count - 1); break;
+    case 6: f->words[i] = draw(UINT32_MAX); break;
     default: f->words[i] = any_word(s); break;
     }
 }
@@ -216,8 +232,10 @@ static void damage_at_random(const struct sample *seed, long samples)
             damage(&s);
         if (draw(8) > 0)
             mend(&s);
-        if (draw(32) == 0)
+        if (draw(32) == 0) {
             s.cut_off = draw(9);
+            s.cut_file = (int)draw((uint32_t)s.files);
+        }
         if (s.subject == AS_CUT)
             s.site = draw(18);
         compare(&s);
@@ -383,6 +401,40 @@ static void test_sorts(void)
             }
 }
 
+/* This word in the place of one of our groups, and a path that names none. */
+static void test_group(size_t place, uint32_t w)
+{
+    static struct sample s;
+    parse(&s, AS_GROUPS, OURS "; " P);
+    s.file[0].words[place] = w;
+    expect(&s, kind_of(w) == LABEL && sort_of(w) == RANGE && low_of(w) <= high_of(w) ? 0 : MOWQACHI_GROUPS);
+}
+
+/* At each place words of every kind and of every sort, and ranges with their ends in order and not. */
+static void test_groups(void)
+{
+    static const uint32_t ends[] = {0x007007, 0x008007, 0x007008, 0x000fff};
+    for (size_t place = 0; place < MOWQACHI_GROUP_COUNT; place++) {
+        for (uint32_t k = 0; k < 16; k++) {
+            test_group(place, k << 28);
+            test_group(place, (LABEL << 28) + (k << 24));
+            test_group(place, (LABEL << 28) + (k << 24) + 0xfff000);
+        }
+        for (size_t k = 0; k < sizeof ends / sizeof *ends; k++)
+            test_group(place, (LABEL << 28) + ends[k]);
+    }
+}
+
+static void test_group_bytes(void)
+{
+    static struct sample s;
+    for (size_t bytes = 0; bytes <= 40; bytes++) {
+        parse(&s, AS_GROUPS, OURS " 50fff000 50fff000; " GROUPED);
+        s.cut_off = 40 - bytes;
+        expect(&s, bytes == MOWQACHI_GROUPS_BYTES ? 0 : MOWQACHI_GROUPS);
+    }
+}
+
 static void must_be(const char *what, size_t expected, size_t got)
 {
     if (expected != got) {
@@ -399,7 +451,45 @@ static struct span bytes_of(const struct file *f, uint8_t *bytes)
     return (struct span){bytes, 4 * f->count};
 }
 
-/* Row 15: two doors, so many targets each, the star of an or of 15 full ranges. */
+/* Inputs of the calls with groups, right ones and wrong ones with their numbers; the last call list is wrong beside the path. */
+static const struct choice {
+    uint32_t number;
+    const char *text;
+} some_wholes[] = {{0, W}, {2, ""}, {7, "10000002 20010001"}, {8, "10000003 20030001 30050002"}},
+  some_parts[] = {{0, STOPPED_DOOR}, {2, ""}, {5, "10000002 30050002"}, {7, "10000002 20060001"}},
+  some_groups[] = {{0, MAKERS}, {16, ""}, {16, P}, {16, "50fff000 503ff000 500ff000 505ff400 506ff600 507ff700 50bff800 51000007"}},
+  some_paths[] = {{0, GROUPED}, {2, ""}, {5, "40100002 51000008"}, {9, "40000002 60000003"}},
+  some_lists[] = {{0, CALL_WORDS}, {3, P}, {10, "b0000002 c0000011"}, {12, "b0000001"}};
+
+/* A call on all choices of its inputs: the first that is wrong gives the number. */
+static void test_order(enum call name, const struct choice *const *inputs, int count)
+{
+    static uint8_t bytes[INPUTS][4 * 64];
+    static struct sample s;
+    struct span found;
+    for (unsigned i = 0; i < 1u << 2 * count; i++) {
+        struct asked asked = {name, {{NULL, 0}}, 0};
+        uint32_t number = 0;
+        for (int k = count - 1; k >= 0; k--) {
+            const struct choice *chosen = &inputs[k][i >> 2 * k & 3];
+            parse(&s, AS_PART, chosen->text);
+            asked.in[k] = bytes_of(&s.file[0], bytes[k]);
+            number = chosen->number != 0 ? chosen->number : number;
+        }
+        must_be(call_names[name], number, call(&asked, &found));
+    }
+}
+
+static void test_orders(void)
+{
+    static const struct choice *const old[] = {some_wholes, some_groups, some_paths};
+    static const struct choice *const site[] = {some_parts, some_groups, some_paths, some_lists};
+    test_order(OLD_SEARCH_GROUPED, old, 3);
+    test_order(FIRST_REPLY_GROUPED, site, 3);
+    test_order(SECOND_REPLY_GROUPED, site, 4);
+}
+
+/* Row 15: two doors, so many targets each, the star of an or of 15 full ranges; then with groups too. */
 static void test_dear_reply(uint32_t targets, uint32_t number, size_t words)
 {
     static struct sample part, path;
@@ -418,6 +508,9 @@ static void test_dear_reply(uint32_t targets, uint32_t number, size_t words)
     struct asked asked = {FIRST_REPLY, {bytes_of(&part.file[0], a), bytes_of(&path.file[0], b)}, 0};
     must_be("number of the dear reply", number, call(&asked, &found));
     must_be("words of the dear reply", words, words_of(found));
+    asked = with_groups(&asked, our_groups);
+    must_be("number of the dear reply, with groups", number, call(&asked, &found));
+    must_be("words of the dear reply, with groups", words, words_of(found));
 }
 
 /* A root's row that reaches 255 doors in all states, and one door on from there in so many: 4,081 pairs and those. */
@@ -459,7 +552,9 @@ static void test_buffers(void)
         f[k] = bytes_of(&s.file[0], bytes[k]);
     }
     const struct asked asked[] = {{OLD_SEARCH, {f[0], f[1]}, 0}, {CUT, {f[0], cut}, 1}, {FIRST_REPLY, {f[2], f[1]}, 0},
-                                  {CALL_LIST, {f[3]}, 0}, {SECOND_REPLY, {f[2], f[1], f[4]}, 0}, {JOIN, {f[5]}, 0}};
+                                  {CALL_LIST, {f[3]}, 0}, {SECOND_REPLY, {f[2], f[1], f[4]}, 0}, {JOIN, {f[5]}, 0},
+                                  {OLD_SEARCH_GROUPED, {f[0], our_groups, f[1]}, 0}, {FIRST_REPLY_GROUPED, {f[2], our_groups, f[1]}, 0},
+                                  {SECOND_REPLY_GROUPED, {f[2], our_groups, f[1], f[4]}, 0}};
     for (int c = 0; c < CALL_COUNT; c++) {
         const struct asked none = {asked[c].call, {{NULL, 0}}, 99};
         size_t out = output_bytes(asked[c].call), work = MOWQACHI_WORK_BYTES;
@@ -476,7 +571,7 @@ static void print_table(void)
 {
     for (int c = 0; c < CALL_COUNT; c++) {
         printf("| `%s` |", call_names[c]);
-        for (unsigned i = 1; i <= MOWQACHI_RESULT; i++)
+        for (unsigned i = 1; i <= MOWQACHI_GROUPS; i++)
             printf(numbers_given((enum call)c) >> i & 1 ? " %u |" : " |", i);
         printf("\n");
     }
@@ -497,6 +592,9 @@ int main(int argc, char **argv)
     test_paths();
     test_most_waiting();
     test_sorts();
+    test_groups();
+    test_group_bytes();
+    test_orders();
     test_dear_reply(8, 0, 3875);
     test_dear_reply(9, MOWQACHI_RESULT, 0);
     test_long_list(14, 0, 4096);

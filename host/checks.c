@@ -194,7 +194,7 @@ const char *number_name(unsigned number)
 {
     static const char *const names[] = {
         "ACCEPTED", "BUFFER", "SIZE", "HEADER", "LENGTH", "WORD", "ORDER", "ROOT",
-        "TARGET", "OPERAND", "STATE", "CUT", "BUNDLE", "TWICE", "DOOR", "RESULT"};
+        "TARGET", "OPERAND", "STATE", "CUT", "BUNDLE", "TWICE", "DOOR", "RESULT", "GROUPS"};
     return names[number];
 }
 
@@ -405,6 +405,27 @@ struct verdict check_cuts(struct span whole, struct span cuts, unsigned site)
             return at(fault(11, "the byte is above 15"), i);
     if (site >= MOWQACHI_SITES)
         return at(fault(11, "the site asked is above 15"), cuts.len);
+    return fine;
+}
+
+static struct verdict check_group(uint32_t w)
+{
+    if (kind_of(w) != LABEL)
+        return fault(16, "no label word");
+    if (sort_of(w) != RANGE)
+        return fault(16, "a label word that is no range");
+    return check_label(w).number == 0 ? fine : fault(16, check_label(w).why);
+}
+
+struct verdict check_groups(struct span s)
+{
+    if (s.len < MOWQACHI_GROUPS_BYTES)
+        return at(fault(16, "there are fewer than eight words"), words_of(s));
+    if (s.len > MOWQACHI_GROUPS_BYTES)
+        return at(fault(16, "there is more behind the eighth word"), MOWQACHI_GROUP_COUNT);
+    for (size_t i = 0; i < words_of(s); i++)
+        if (check_group(word_at(s, i)).number != 0)
+            return at(check_group(word_at(s, i)), i);
     return fine;
 }
 

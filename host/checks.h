@@ -1,5 +1,5 @@
-/* The checks of document 01, in its order, with the word at which one fails. They share no code with the library, so that the two can be held
-   against each other (agree.c); both read document 01 as docs/DECISIONS.md does. */
+/* The checks of document 01, and of document 02's groups, in their order, with the word at which one fails. They share no code with the library,
+   so that the two can be held against each other (agree.c); both read the documents as docs/DECISIONS.md does. */
 #ifndef CHECKS_H
 #define CHECKS_H
 
@@ -28,6 +28,8 @@ struct verdict check_front(struct span s, unsigned kind);
 struct verdict check_bundle(struct span s, unsigned kind);
 /* The cut list of an accepted whole, then the site asked. The index is that of a byte. */
 struct verdict check_cuts(struct span whole, struct span cuts, unsigned site);
+/* The eight words of groups. */
+struct verdict check_groups(struct span s);
 /* An accepted call list against an accepted path and an accepted part. */
 struct verdict check_against(struct span part, struct span path, struct span calls);
 

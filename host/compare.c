@@ -6,23 +6,24 @@
 
 #include "calls.h"
 #include "checks.h"
+#include "drafts.h"
 
-enum { WRITTEN_EVERY = 1000 };
+enum { WRITTEN_EVERY = 1000, GROUPED_EVERY = 4 };
 
 /* The kinds of the calls' results: the inspector must accept what the library writes. */
-static const unsigned result_kinds[CALL_COUNT] = {LIST, PART, FIRST, CALLS, SECOND, LIST};
+static const unsigned result_kinds[CALL_COUNT] = {LIST, PART, FIRST, CALLS, SECOND, LIST, LIST, FIRST, SECOND};
 
-const char *const options[SUBJECTS] = {"--part", "--whole", "--path", "--calls", "--firsts", "--seconds", "--cut", "--asked"};
+const char *const options[SUBJECTS] = {"--part", "--whole", "--path", "--calls", "--firsts", "--seconds", "--cut", "--groups", "--asked"};
 
 struct input {
     size_t len;
     uint8_t bytes[4 * 3 * MOST];
 };
 
-static struct input inputs[3];
+static struct input inputs[MOST_FILES];
 static const char *directory;
 static FILE *list;
-static size_t numbers[SUBJECTS][MOWQACHI_RESULT + 1], written;
+static size_t numbers[SUBJECTS][MOWQACHI_GROUPS + 1], written;
 
 void write_into(const char *name)
 {
@@ -38,7 +39,7 @@ void print_compared(void)
 {
     for (int k = 0; k < SUBJECTS; k++) {
         printf("%-9s ", options[k]);
-        for (unsigned i = 0; i <= MOWQACHI_RESULT; i++)
+        for (unsigned i = 0; i <= MOWQACHI_GROUPS; i++)
             if (numbers[k][i] > 0)
                 printf(" %u: %zu", i, numbers[k][i]);
         printf("\n");
@@ -54,16 +55,26 @@ static void append(struct input *in, const struct file *f, size_t width)
             in->bytes[in->len++] = (uint8_t)(f->words[i] >> 8 * k);
 }
 
+bool headless(const struct sample *s, int k)
+{
+    switch (s->subject) {
+    case AS_CUT: return k == 1;
+    case AS_GROUPS: return k == 0;
+    case AS_ASKED: return s->files == MOST_FILES && k == 1;
+    default: return false;
+    }
+}
+
 static int lay_out(const struct sample *s)
 {
-    bool apart = s->subject == AS_CUT || s->subject == AS_ASKED;
-    for (int k = 0; k < 3; k++)
+    bool apart = s->subject == AS_CUT || s->subject == AS_GROUPS || s->subject == AS_ASKED;
+    for (int k = 0; k < MOST_FILES; k++)
         inputs[k].len = 0;
     for (int k = 0; k < s->files; k++)
         append(&inputs[apart ? k : 0], &s->file[k], s->subject == AS_CUT && k == 1 ? 1 : 4);
-    int last = apart ? s->files - 1 : 0;
-    inputs[last].len -= s->cut_off < inputs[last].len ? s->cut_off : inputs[last].len;
-    return last + 1;
+    struct input *cut = &inputs[apart ? s->cut_file : 0];
+    cut->len -= s->cut_off < cut->len ? s->cut_off : cut->len;
+    return apart ? s->files : 1;
 }
 
 static struct span input(int k)
@@ -74,6 +85,12 @@ static struct span input(int k)
 static struct verdict then(struct verdict v, struct verdict next)
 {
     return v.number != 0 ? v : next;
+}
+
+static struct verdict inspected_asked(struct span part, struct verdict groups, struct span path, struct span calls)
+{
+    struct verdict v = then(then(check_file(part, PART), groups), then(check_file(path, PATH), check_file(calls, CALLS)));
+    return v.number != 0 ? v : check_against(part, path, calls);
 }
 
 static struct verdict inspected(const struct sample *s)
@@ -90,9 +107,9 @@ static struct verdict inspected(const struct sample *s)
     case AS_CUT:
         v = check_whole(a);
         return v.number != 0 ? v : check_cuts(a, b, s->site);
+    case AS_GROUPS: return then(check_groups(a), check_file(b, PATH));
     default:
-        v = then(check_file(a, PART), then(check_file(b, PATH), check_file(c, CALLS)));
-        return v.number != 0 ? v : check_against(a, b, c);
+        return s->files == MOST_FILES ? inspected_asked(a, check_groups(b), c, input(3)) : inspected_asked(a, check_groups(our_groups), b, c);
     }
 }
 
@@ -142,33 +159,55 @@ static struct span no_cut(struct span whole)
     return (struct span){zeros, nodes};
 }
 
+static const uint8_t lone[] = {1, 0, 0, 0x10}, root[] = {2, 0, 0, 0x10, 0, 0, 3, 0x20};
+static const struct span lone_part = {lone, sizeof lone}, lone_root = {root, sizeof root};
+
+/* A call list without calls. */
+static struct span no_calls(unsigned n)
+{
+    static uint8_t bare[] = {1, 0, 0, 0xb0};
+    bare[2] = (uint8_t)(n << 4);
+    return (struct span){bare, sizeof bare};
+}
+
+/* The calls that read a path. */
+static int calls_for_path(struct span path, struct asked asked[3])
+{
+    asked[0] = (struct asked){FIRST_REPLY, {lone_part, path}, 0};
+    asked[1] = (struct asked){OLD_SEARCH, {lone_root, path}, 0};
+    asked[2] = (struct asked){SECOND_REPLY, {lone_part, path, no_calls(n_in(path))}, 0};
+    return 3;
+}
+
+/* The same with groups. */
+static int calls_for_groups(struct span groups, struct span path, struct asked asked[3])
+{
+    int count = calls_for_path(path, asked);
+    for (int k = 0; k < count; k++)
+        asked[k] = with_groups(&asked[k], groups);
+    return count;
+}
+
 /* The calls that read the sample as what it is given as, with nothing to refuse in their other inputs. */
 static int calls_for(const struct sample *s, struct asked asked[3])
 {
-    static const uint8_t lone[] = {1, 0, 0, 0x10}, root[] = {2, 0, 0, 0x10, 0, 0, 3, 0x20};
-    static uint8_t bare[] = {1, 0, 0, 0xb0};
     struct span a = input(0), b = input(1), c = input(2);
-    struct span part = {lone, sizeof lone}, whole = {root, sizeof root}, none = {bare, sizeof bare};
-    bare[2] = (uint8_t)(s->subject == AS_PATH ? n_in(a) << 4 : 0);
     switch (s->subject) {
     case AS_PART:
         asked[0] = (struct asked){FIRST_REPLY, {a, path_of(0)}, 0};
-        asked[1] = (struct asked){SECOND_REPLY, {a, path_of(0), none}, 0};
+        asked[1] = (struct asked){SECOND_REPLY, {a, path_of(0), no_calls(0)}, 0};
         return 2;
     case AS_WHOLE:
         asked[0] = (struct asked){OLD_SEARCH, {a, path_of(0)}, 0};
         asked[1] = (struct asked){CUT, {a, no_cut(a)}, 0};
         return 2;
-    case AS_PATH:
-        asked[0] = (struct asked){FIRST_REPLY, {part, a}, 0};
-        asked[1] = (struct asked){OLD_SEARCH, {whole, a}, 0};
-        asked[2] = (struct asked){SECOND_REPLY, {part, a, none}, 0};
-        return 3;
-    case AS_CALLS: asked[0] = (struct asked){SECOND_REPLY, {part, path_of(n_in(a)), a}, 0}; return 1;
+    case AS_PATH: return calls_for_path(a, asked);
+    case AS_GROUPS: return calls_for_groups(a, b, asked);
+    case AS_CALLS: asked[0] = (struct asked){SECOND_REPLY, {lone_part, path_of(n_in(a)), a}, 0}; return 1;
     case AS_FIRSTS: asked[0] = (struct asked){CALL_LIST, {a}, 0}; return 1;
     case AS_SECONDS: asked[0] = (struct asked){JOIN, {a}, 0}; return 1;
     case AS_CUT: asked[0] = (struct asked){CUT, {a, b}, s->site}; return 1;
-    default: asked[0] = (struct asked){SECOND_REPLY, {a, b, c}, 0}; return 1;
+    default: asked[0] = (struct asked){s->files == MOST_FILES ? SECOND_REPLY_GROUPED : SECOND_REPLY, {a, b, c, input(3)}, 0}; return 1;
     }
 }
 
@@ -189,13 +228,28 @@ static void write_out(const struct sample *s, int count, uint32_t number)
     written++;
 }
 
-static void disagree(const struct sample *s, unsigned theirs, unsigned ours)
+static _Noreturn void stop_at_inputs(void)
 {
-    printf("%s: the library gives %u, the inspector %u, for\n", options[s->subject], theirs, ours);
-    for (int k = 0; k < 3; k++)
+    for (int k = 0; k < MOST_FILES; k++)
         for (size_t i = 0; i < inputs[k].len; i++)
             printf("%02x%s", inputs[k].bytes[i], i % 4 == 3 || i + 1 == inputs[k].len ? "\n" : "");
     exit(1);
+}
+
+static void disagree(const struct sample *s, unsigned theirs, unsigned ours)
+{
+    printf("%s: the library gives %u, the inspector %u, for\n", options[s->subject], theirs, ours);
+    stop_at_inputs();
+}
+
+/* A call that reads a path, beside the one that is handed our groups. */
+static void compare_groups(const struct sample *s, const struct asked *plain)
+{
+    struct asked ours = with_groups(plain, our_groups);
+    if (leave_the_same(plain, &ours))
+        return;
+    printf("%s: %s does not leave what %s leaves with our groups, for\n", options[s->subject], call_names[plain->call], call_names[ours.call]);
+    stop_at_inputs();
 }
 
 /* A reply by itself is refused as in a bundle, and the bundle of it may lack more. */
@@ -224,6 +278,8 @@ uint32_t compare(const struct sample *s)
             disagree(s, given, number);
         if (given == 0 && check_file(found, result_kinds[asked[k].call]).number != 0)
             disagree(s, given, check_file(found, result_kinds[asked[k].call]).number);
+        if (reads_path(asked[k].call) && draw(GROUPED_EVERY) == 0)
+            compare_groups(s, &asked[k]);
     }
     compare_alone(s, number);
     if (numbers[s->subject][number]++ % WRITTEN_EVERY < 2)

@@ -2,13 +2,14 @@
 #ifndef COMPARE_H
 #define COMPARE_H
 
+#include <stdbool.h>
 #include <stddef.h>
 #include <stdint.h>
 
-enum { MOST = 8200 };
+enum { MOST = 8200, MOST_FILES = 4 };
 
 /* What a sample is given as. */
-enum subject { AS_PART, AS_WHOLE, AS_PATH, AS_CALLS, AS_FIRSTS, AS_SECONDS, AS_CUT, AS_ASKED, SUBJECTS };
+enum subject { AS_PART, AS_WHOLE, AS_PATH, AS_CALLS, AS_FIRSTS, AS_SECONDS, AS_CUT, AS_GROUPS, AS_ASKED, SUBJECTS };
 
 /* The inspector's options for them. */
 extern const char *const options[SUBJECTS];
@@ -18,19 +19,25 @@ struct file {
     uint32_t words[MOST];
 };
 
-/* The files of a bundle stand one after another, and are one input; a cut list has a word for each byte. */
+/* The files of a bundle stand one after another, and are one input; a cut list has a word for each byte. AS_GROUPS has a path behind the groups,
+   and AS_ASKED four files where groups stand between part and path. */
 struct sample {
     enum subject subject;
     uint32_t site;
     int files;
-    struct file file[3];
-    size_t cut_off;     /* bytes taken off the end of the last input */
+    struct file file[MOST_FILES];
+    size_t cut_off;     /* bytes taken off the end of one input: */
+    int cut_file;
 };
+
+/* Whether a file has no header: a cut list, or groups. */
+bool headless(const struct sample *s, int k);
 
 /* Appends an or of so many labels. Once `most` wait an or stands behind each label; the other ors come at the end. */
 void put_or(struct file *f, uint32_t label, size_t labels, size_t most);
 
-/* The library's number. Stops the program where the inspector's is another. */
+/* The library's number. Stops the program where the inspector's is another, or where a call that reads a path leaves something else than the one
+   that is handed our groups, which some of them are held to. */
 uint32_t compare(const struct sample *s);
 /* The same, and stops the program where it is not this one. */
 void expect(const struct sample *s, uint32_t number);

@@ -8,8 +8,11 @@
 struct place {
     struct nodes own;       /* the nodes of the file's node words */
     struct nodes stopped;   /* the stopped nodes of the part beside it */
+    const uint32_t *groups; /* of a path */
     unsigned labels;        /* label words so far */
 };
+
+typedef void line_printer(uint32_t w, size_t i, struct place *place);
 
 static void print_header(uint32_t w)
 {
@@ -22,16 +25,12 @@ static void print_header(uint32_t w)
     printf("%zu word%s", length_of(w), length_of(w) == 1 ? "" : "s");
 }
 
-static void print_label(uint32_t w, unsigned state)
+static void print_label(uint32_t w, const uint32_t *groups)
 {
-    unsigned low, high;
-    printf("%-12s state %u, ", "label", state);
+    uint32_t range = groups[group_of(w)];
     switch (sort_of(w)) {
     case RANGE: printf("range %u to %u", low_of(w), high_of(w)); break;
-    case GROUP:
-        group_ends(group_of(w), &low, &high);
-        printf("group %u, %u to %u", group_of(w), low, high);
-        break;
+    case GROUP: printf("group %u, %u to %u", group_of(w), low_of(range), high_of(range)); break;
     case OUTSIDE: printf("outside %u to %u%s", low_of(w), high_of(w), holds_none(w) ? ", no label" : ""); break;
     default: printf("sort %u", sort_of(w)); break;
     }
@@ -63,18 +62,34 @@ static void print_reply_word(uint32_t w, const struct nodes *stopped)
 static void print_word(uint32_t w, size_t i, struct place *place)
 {
     static const char *const operators[] = {"empty word", "then", "or", "star"};
-    printf("%5zu  %08x  ", i, (unsigned)w);
-    if (file_name(kind_of(w)) != NULL)
+    bool header = file_name(kind_of(w)) != NULL;
+    printf("%s%5zu  %08x  ", header && i > 0 ? "\n" : "", i, (unsigned)w);
+    if (header) {
         print_header(w);
-    else if (kind_of(w) == LABEL)
-        print_label(w, ++place->labels);
-    else if (kind_of(w) == OPERATOR)
+    } else if (kind_of(w) == LABEL) {
+        printf("%-12s state %u, ", "label", ++place->labels);
+        print_label(w, place->groups);
+    } else if (kind_of(w) == OPERATOR) {
         printf("%-12s %s", "operator", operators[operator_of(w)]);
-    else if (kind_of(w) == NODE || kind_of(w) == EDGE)
+    } else if (kind_of(w) == NODE || kind_of(w) == EDGE) {
         print_part_word(w, &place->own);
-    else
+    } else {
         print_reply_word(w, &place->stopped);
+    }
     printf("\n");
+}
+
+/* A word of groups, which needs to know nothing else. */
+static void print_group(uint32_t w, size_t i, struct place *place)
+{
+    (void)place;
+    printf("%5zu  %08x  %-12s %zu, ", i, (unsigned)w, i < MOWQACHI_GROUP_COUNT ? "group" : "no group", i);
+    if (kind_of(w) != LABEL)
+        printf("kind %X\n", kind_of(w));
+    else if (sort_of(w) != RANGE)
+        printf("sort %u\n", sort_of(w));
+    else
+        printf("%u to %u\n", low_of(w), high_of(w));
 }
 
 static void print_mark(struct verdict v, size_t i)
@@ -90,16 +105,11 @@ static void collect_stopped(struct nodes *set, struct span part)
             add_node(set, node_of(word_at(part, i)));
 }
 
-void print_words(struct span s, struct verdict v, struct span part)
+static void print_lines(struct span s, struct verdict v, line_printer *print_line, struct place *place)
 {
-    struct place place = {.labels = 0};
     size_t shown = words_of(s) < MOWQACHI_BUNDLE_WORDS ? words_of(s) : MOWQACHI_BUNDLE_WORDS;
-    collect(&place.own, s, NODE);
-    collect_stopped(&place.stopped, part);
     for (size_t i = 0; i < shown; i++) {
-        if (i > 0 && file_name(kind_of(word_at(s, i))) != NULL)
-            printf("\n");
-        print_word(word_at(s, i), i, &place);
+        print_line(word_at(s, i), i, place);
         print_mark(v, i);
     }
     if (shown < words_of(s))
@@ -108,6 +118,19 @@ void print_words(struct span s, struct verdict v, struct span part)
         printf("%5zu  %02x        byte\n", i, s.bytes[i]);
     if (v.at >= shown)
         print_mark(v, v.at);
+}
+
+void print_words(struct span s, struct verdict v, const struct beside *beside)
+{
+    struct place place = {.groups = beside->groups};
+    collect(&place.own, s, NODE);
+    collect_stopped(&place.stopped, beside->part);
+    print_lines(s, v, print_word, &place);
+}
+
+void print_groups(struct span s, struct verdict v)
+{
+    print_lines(s, v, print_group, NULL);
 }
 
 void print_verdict(struct verdict v, const char *unit, size_t count)

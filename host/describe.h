@@ -4,9 +4,17 @@
 
 #include "checks.h"
 
+/* What is beside a file: the part of the site asked, which may be empty, and the eight groups of a path. */
+struct beside {
+    struct span part;
+    const uint32_t *groups;
+};
+
 /* The words of s, one a line, with the verdict's mark under its word, and a blank line ahead of every further header; calls of nodes that are
-   stopped in the part, if there is one, say so. Bytes behind the last word are numbered as bytes. */
-void print_words(struct span s, struct verdict v, struct span part);
+   stopped in the part beside it say so. Bytes behind the last word are numbered as bytes. */
+void print_words(struct span s, struct verdict v, const struct beside *beside);
+/* The words of groups in the same way. */
+void print_groups(struct span s, struct verdict v);
 /* The last line of a report on so many words or bytes. */
 void print_verdict(struct verdict v, const char *unit, size_t count);
 /* An accepted path as an expression. */

@@ -9,6 +9,16 @@ uint32_t draw(uint32_t below)
     return state % below;
 }
 
+size_t draw_length(size_t least)
+{
+    switch (draw(16)) {
+    case 0: return draw((uint32_t)least);
+    case 1: return least - 1;
+    case 2: return least + 1 + draw(1000);
+    default: return least;
+    }
+}
+
 void put(struct draft *d, uint32_t w)
 {
     for (int k = 0; k < 4; k++)

@@ -12,6 +12,8 @@ struct draft {
 
 /* The same numbers in every run. */
 uint32_t draw(uint32_t below);
+/* A length of a buffer of which at least so many bytes are asked: often just so many, more, one less or far less. */
+size_t draw_length(size_t least);
 
 void put(struct draft *d, uint32_t w);
 /* Ends the file that begins at byte `from`, where room was left for its header. */

@@ -1,5 +1,5 @@
-/* The inspector: a file of document 01 word by word, and the first check that fails. Its exit code is the refusal's number, 0 for an accepted
-   file, and 64 where there is nothing to inspect. */
+/* The inspector: a file of document 01, or document 02's groups, word by word, and the first check that fails. Its exit code is the refusal's
+   number, 0 for an accepted file, and 64 where there is nothing to inspect. */
 #include <ctype.h>
 #include <errno.h>
 #include <stdio.h>
@@ -8,18 +8,22 @@
 
 #include "checks.h"
 #include "describe.h"
+#include "mowqachi.h"
 
-enum { NOTHING = 64, MOST_BYTES = 1 << 20 };
+enum { NOTHING = 64, MOST_BYTES = 1 << 20, MOST_FILES = 4 };
 
 static const char usage[] =
     "usage: inspect [--hex] [AS] FILE              a file or a bundle\n"
     "       inspect [--hex] --cut WHOLE CUT        a cut list beside its whole\n"
-    "       inspect [--hex] --asked PART PATH LIST a call list beside the part and path of the site asked\n"
+    "       inspect [--hex] --groups GROUPS [PATH] eight words for the groups; a path with these groups\n"
+    "       inspect [--hex] --asked PART [GROUPS] PATH LIST\n"
+    "                                              a call list beside the part and path of the site asked\n"
     "       inspect [--hex] --dot FILE             a part as a Graphviz picture\n"
     "AS tells what the file should be; without it the header tells:\n"
     "       --part --whole --path --calls --list   one file\n"
     "       --firsts --seconds                     a bundle of replies, checked over all files too\n"
     "       --files                                files one after another, each by itself\n"
+    "Without GROUPS a path has our groups.\n"
     "--hex: the input is text, words in hexadecimal (a cut list: numbers of bytes). FILE may be -, for standard input.\n";
 
 static _Noreturn void give_up(const char *what, const char *why)
@@ -73,10 +77,10 @@ static struct span read_hex(const char *name, size_t width)
     return (struct span){bytes, len};
 }
 
-/* The report of one file: its words, what there is to say of an accepted one, and the verdict. A call list may have a part beside it. */
-static unsigned report_beside(struct span s, struct verdict v, struct span part)
+/* The report of one file: its words, what there is to say of an accepted one, and the verdict. */
+static unsigned report_beside(struct span s, struct verdict v, const struct beside *beside)
 {
-    print_words(s, v, part);
+    print_words(s, v, beside);
     if (v.number == 0 && kind_of(word_at(s, 0)) == PATH)
         print_expression(s);
     if (v.number == 0 && kind_of(word_at(s, 0)) == PART)
@@ -85,7 +89,17 @@ static unsigned report_beside(struct span s, struct verdict v, struct span part)
     return v.number;
 }
 
-static unsigned report(struct span s, struct verdict v) { return report_beside(s, v, (struct span){NULL, 0}); }
+static unsigned report(struct span s, struct verdict v)
+{
+    return report_beside(s, v, &(struct beside){.groups = mowqachi_our_groups});
+}
+
+static unsigned report_groups(struct span s, struct verdict v)
+{
+    print_groups(s, v);
+    print_verdict(v, "word", words_of(s));
+    return v.number;
+}
 
 static unsigned as_part(const struct span *in) { return report(in[0], check_file(in[0], PART)); }
 static unsigned as_whole(const struct span *in) { return report(in[0], check_whole(in[0])); }
@@ -156,24 +170,51 @@ static unsigned as_cut(const struct span *in)
     return v.number;
 }
 
-static unsigned as_asked(const struct span *in)
+/* The words of accepted groups. */
+static const uint32_t *read_groups(struct span s, uint32_t words[MOWQACHI_GROUP_COUNT])
 {
-    struct verdict part = check_file(in[0], PART), path = check_file(in[1], PATH), calls = check_file(in[2], CALLS);
-    if (part.number != 0)
-        return report(in[0], part);
-    if (path.number != 0)
-        return report(in[1], path);
-    return report_beside(in[2], calls.number != 0 ? calls : check_against(in[0], in[1], in[2]), in[0]);
+    for (size_t g = 0; g < MOWQACHI_GROUP_COUNT; g++)
+        words[g] = word_at(s, g);
+    return words;
 }
 
+static unsigned as_groups(const struct span *in)
+{
+    uint32_t own[MOWQACHI_GROUP_COUNT];
+    struct verdict v = check_groups(in[0]);
+    if (v.number != 0 || in[1].bytes == NULL)
+        return report_groups(in[0], v);
+    return report_beside(in[1], check_file(in[1], PATH), &(struct beside){.groups = read_groups(in[0], own)});
+}
+
+/* The inputs in the order in which a second reply is asked for: the groups, if there are any, stand between part and path. */
+static unsigned as_asked(const struct span *in)
+{
+    uint32_t own[MOWQACHI_GROUP_COUNT];
+    bool grouped = in[3].bytes != NULL;
+    struct span part = in[0], path = in[grouped ? 2 : 1], list = in[grouped ? 3 : 2];
+    struct verdict v = check_file(part, PART);
+    if (v.number != 0)
+        return report(part, v);
+    if (grouped && check_groups(in[1]).number != 0)
+        return report_groups(in[1], check_groups(in[1]));
+    const uint32_t *groups = grouped ? read_groups(in[1], own) : mowqachi_our_groups;
+    v = check_file(path, PATH);
+    if (v.number != 0)
+        return report_beside(path, v, &(struct beside){.groups = groups});
+    v = check_file(list, CALLS);
+    return report_beside(list, v.number != 0 ? v : check_against(part, path, list), &(struct beside){part, groups});
+}
+
+/* What an option asks for, and how many files it takes; those that are not given are NULL. */
 static const struct mode {
     const char *option;
-    int files;
+    int least, most;
     unsigned (*run)(const struct span *in);
 } modes[] = {
-    {"--part", 1, as_part}, {"--whole", 1, as_whole}, {"--path", 1, as_path}, {"--calls", 1, as_calls}, {"--list", 1, as_list},
-    {"--firsts", 1, as_firsts}, {"--seconds", 1, as_seconds}, {"--files", 1, as_files}, {"--dot", 1, as_picture},
-    {"--cut", 2, as_cut}, {"--asked", 3, as_asked},
+    {"--part", 1, 1, as_part}, {"--whole", 1, 1, as_whole}, {"--path", 1, 1, as_path}, {"--calls", 1, 1, as_calls}, {"--list", 1, 1, as_list},
+    {"--firsts", 1, 1, as_firsts}, {"--seconds", 1, 1, as_seconds}, {"--files", 1, 1, as_files}, {"--dot", 1, 1, as_picture},
+    {"--cut", 2, 2, as_cut}, {"--groups", 1, 2, as_groups}, {"--asked", 3, MOST_FILES, as_asked},
 };
 
 static struct mode mode_of(const char *option)
@@ -181,27 +222,28 @@ static struct mode mode_of(const char *option)
     for (size_t i = 0; i < sizeof modes / sizeof *modes; i++)
         if (strcmp(option, modes[i].option) == 0)
             return modes[i];
-    return (struct mode){NULL, 1, by_header};
+    return (struct mode){NULL, 1, 1, by_header};
 }
 
 int main(int argc, char **argv)
 {
-    struct span in[3] = {{NULL, 0}};
+    struct span in[MOST_FILES] = {{NULL, 0}};
     int next = 1;
     bool hex = next < argc && strcmp(argv[next], "--hex") == 0;
     next += hex;
     struct mode mode = mode_of(next < argc ? argv[next] : "");
     next += mode.option != NULL;
-    if (argc - next != mode.files || strncmp(argv[next], "--", 2) == 0) {
+    int files = argc - next;
+    if (files < mode.least || files > mode.most || strncmp(argv[next], "--", 2) == 0) {
         fputs(usage, stderr);
         return NOTHING;
     }
-    for (int k = 0; k < mode.files; k++) {
+    for (int k = 0; k < files; k++) {
         bool bytes = mode.run == as_cut && k == 1;
         in[k] = hex ? read_hex(argv[next + k], bytes ? 1 : 4) : read_bytes(argv[next + k]);
     }
     unsigned number = mode.run(in);
-    for (int k = 0; k < mode.files; k++)
+    for (int k = 0; k < files; k++)
         free((void *)in[k].bytes);
     return (int)number;
 }

@@ -7,76 +7,45 @@
 #include "plants.h"
 
 /* With ranges alone a letter may be two labels and their or: a path then has 10 labels at most, and 6 operands that wait. */
-enum { MOST_LETTERS = 5, UNLINKED = 2000, THEN = 0x60000001, OR = 0x60000002, STAR = 0x60000003 };
+enum { MOST_LETTERS = 5, UNLINKED = 2000 };
 
 /* Of the links, and the ends of ranges: around the least label and the greatest. UNLINKED is none of them. */
 static const uint32_t labels[] = {0, 1, 2, 4093, 4094, 4095};
 enum { LABELS = sizeof labels / sizeof *labels };
 
-/* The path with ranges alone. */
-static struct draft ranges;
-
-static void put_both(uint32_t w)
+static uint32_t draw_letter(void)
 {
-    put(&path, w);
-    put(&ranges, w);
+    uint32_t w = draw_range(labels, LABELS);
+    return draw(4) == 0 ? w : w + (OUTSIDE << 24);
 }
 
-static uint32_t range(uint32_t low, uint32_t high)
-{
-    return 0x50000000 + (high << 12) + low;
-}
-
-/* Where nothing lies outside, the range is one that no link is in. */
-static void put_outside(uint32_t low, uint32_t high)
+/* What is outside, as ranges. Where nothing is, the range is one that no link is in. */
+static void put_outside(struct draft *d, uint32_t low, uint32_t high)
 {
     bool below = low > 0, above = high < MOWQACHI_LABELS - 1;
-    put(&path, range(low, high) + (OUTSIDE << 24));
     if (below)
-        put(&ranges, range(0, low - 1));
+        put(d, range(0, low - 1));
     if (above)
-        put(&ranges, range(high + 1, MOWQACHI_LABELS - 1));
+        put(d, range(high + 1, MOWQACHI_LABELS - 1));
     if (below && above)
-        put(&ranges, OR);
+        put(d, OR);
     if (!below && !above)
-        put(&ranges, range(UNLINKED, UNLINKED));
+        put(d, range(UNLINKED, UNLINKED));
 }
 
-static void draw_letter(void)
+/* The path with ranges alone. */
+static struct draft with_ranges(void)
 {
-    uint32_t low = draw(LABELS), high = low + draw(LABELS - low);
-    if (draw(4) == 0)
-        put_both(range(labels[low], labels[high]));
-    else
-        put_outside(labels[low], labels[high]);
-}
-
-static void end_path(struct draft *d)
-{
-    uint32_t n = 0;
-    for (size_t i = 1; i < words_of(span_of(d)); i++)
-        n += kind_of(word_at(span_of(d), i)) == LABEL;
-    end_file(d, 0, 0x40000000 + (n << 20));
-}
-
-static void draw_path(void)
-{
-    uint32_t letters = 1 + draw(MOST_LETTERS), waiting = 0;
-    path.len = ranges.len = 4;
-    while (letters > 0 || waiting > 1) {
-        if (letters > 0 && (waiting < 2 || draw(2) == 0)) {
-            draw_letter();
-            letters--;
-            waiting++;
-        } else {
-            put_both(draw(2) == 0 ? THEN : OR);
-            waiting--;
-        }
-        if (draw(4) == 0)
-            put_both(STAR);
+    struct draft d = {.len = 4};
+    for (size_t i = 1; i < words_of(span_of(&path)); i++) {
+        uint32_t w = word_at(span_of(&path), i);
+        if (kind_of(w) == LABEL && sort_of(w) == OUTSIDE)
+            put_outside(&d, low_of(w), high_of(w));
+        else
+            put(&d, w);
     }
-    end_path(&path);
-    end_path(&ranges);
+    end_path(&d);
+    return d;
 }
 
 /* Whether anything is listed. */
@@ -84,12 +53,13 @@ static bool check(void)
 {
     static struct draft parts[SITES];
     draw_plant(true, labels, LABELS);
-    draw_path();
+    draw_path(MOST_LETTERS, draw_letter);
+    struct draft ranges = with_ranges();
     cut_up(&plant, draw_cuts(), parts);
     struct draft expected = written(OLD_SEARCH, &plant, span_of(&ranges), none);
     must_be("old search", expected, written(OLD_SEARCH, &plant, span_of(&path), none));
-    must_be("joined list, ranges alone", expected, joined(parts, span_of(&ranges)));
-    must_be("joined list", expected, joined(parts, span_of(&path)));
+    must_be("joined list, ranges alone", expected, joined(parts, none, span_of(&ranges)));
+    must_be("joined list", expected, joined(parts, none, span_of(&path)));
     return words_of(span_of(&expected)) > 1;
 }
 

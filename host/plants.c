@@ -7,7 +7,7 @@
 enum { FURTHER = 2 };   /* targets of a part that are no nodes of it */
 
 const struct span none = {NULL, 0};
-struct draft plant, path;
+struct draft plant, groups, path;
 uint32_t root;
 struct nodes stopped;
 
@@ -19,15 +19,17 @@ static void print_draft(const char *name, const struct draft *d)
     printf("\n");
 }
 
-static _Noreturn void fail(const char *what)
+_Noreturn void fail(const char *what)
 {
     printf("%s\n", what);
     print_draft("part", &plant);
+    if (groups.len > 0)
+        print_draft("groups", &groups);
     print_draft("path", &path);
     exit(1);
 }
 
-static bool equal(const struct draft *a, const struct draft *b)
+bool equal(const struct draft *a, const struct draft *b)
 {
     return a->len == b->len && memcmp(a->bytes, b->bytes, a->len) == 0;
 }
@@ -42,12 +44,11 @@ void must_be(const char *what, struct draft expected, struct draft got)
 }
 
 /* Appends what a call writes. */
-static void append(struct draft *to, enum call name, const struct draft *x, struct span y, struct span z, uint32_t site)
+static void append(struct draft *to, struct asked asked)
 {
-    struct asked asked = {name, {span_of(x), y, z}, site};
     struct span found;
     if (call(&asked, &found) != MOWQACHI_ACCEPTED)
-        fail(call_names[name]);
+        fail(call_names[asked.call]);
     memcpy(to->bytes + to->len, found.bytes, found.len);
     to->len += found.len;
 }
@@ -55,7 +56,7 @@ static void append(struct draft *to, enum call name, const struct draft *x, stru
 struct draft written(enum call name, const struct draft *x, struct span y, struct span z)
 {
     struct draft d = {.len = 0};
-    append(&d, name, x, y, z, 0);
+    append(&d, (struct asked){name, {span_of(x), y, z}, 0});
     return d;
 }
 
@@ -91,17 +92,75 @@ void cut_up(const struct draft *whole, struct span cuts, struct draft parts[SITE
 {
     for (uint32_t s = 0; s < SITES; s++) {
         parts[s].len = 0;
-        append(&parts[s], CUT, whole, cuts, none, s);
+        append(&parts[s], (struct asked){CUT, {span_of(whole), cuts}, s});
     }
 }
 
-struct draft joined(const struct draft parts[SITES], struct span asked)
+uint32_t range(uint32_t low, uint32_t high)
+{
+    return 0x50000000 + (high << 12) + low;
+}
+
+uint32_t draw_range(const uint32_t *labels, uint32_t count)
+{
+    uint32_t low = draw(count), high = low + draw(count - low);
+    return range(labels[low], labels[high]);
+}
+
+void end_path(struct draft *d)
+{
+    uint32_t n = 0;
+    for (size_t i = 1; i < words_of(span_of(d)); i++)
+        n += kind_of(word_at(span_of(d), i)) == LABEL;
+    end_file(d, 0, 0x40000000 + (n << 20));
+}
+
+void draw_path(uint32_t most, uint32_t (*letter)(void))
+{
+    uint32_t letters = 1 + draw(most), waiting = 0;
+    path.len = 4;
+    while (letters > 0 || waiting > 1) {
+        if (letters > 0 && (waiting < 2 || draw(2) == 0)) {
+            put(&path, letter());
+            letters--;
+            waiting++;
+        } else {
+            put(&path, draw(2) == 0 ? THEN : OR);
+            waiting--;
+        }
+        if (draw(4) == 0)
+            put(&path, STAR);
+    }
+    end_path(&path);
+}
+
+struct draft draw_calls(void)
+{
+    struct draft d = {.len = 4};
+    uint32_t n = n_of(word_at(span_of(&path), 0));
+    for (size_t i = 1; i < words_of(span_of(&plant)); i++) {
+        uint32_t w = word_at(span_of(&plant), i);
+        for (uint32_t q = 0; kind_of(w) == NODE && door_bit(w) && q <= n; q++)
+            if (draw(2) == 0)
+                put(&d, 0xc0000000 + 16 * node_of(w) + q);
+    }
+    end_file(&d, 0, 0xb0000000 + (n << 20));
+    return d;
+}
+
+/* A call by groups, if there are any. */
+static struct asked grouped(struct asked plain, struct span by)
+{
+    return by.len > 0 ? with_groups(&plain, by) : plain;
+}
+
+struct draft joined(const struct draft parts[SITES], struct span by, struct span asked)
 {
     struct draft firsts = {.len = 0}, seconds = {.len = 0};
     for (int s = 0; s < SITES; s++)
-        append(&firsts, FIRST_REPLY, &parts[s], asked, none, 0);
+        append(&firsts, grouped((struct asked){FIRST_REPLY, {span_of(&parts[s]), asked}, 0}, by));
     struct draft calls = written(CALL_LIST, &firsts, none, none);
     for (int s = 0; s < SITES; s++)
-        append(&seconds, SECOND_REPLY, &parts[s], asked, span_of(&calls), 0);
+        append(&seconds, grouped((struct asked){SECOND_REPLY, {span_of(&parts[s]), asked, span_of(&calls)}, 0}, by));
     return written(JOIN, &seconds, none, none);
 }

@@ -8,11 +8,12 @@
 
 enum { SITES = 3, MOST_NODES = 8 };
 enum { DOOR_BIT = 0x10000, ROOT_BIT = 0x20000, STOPPED_BIT = 0x40000 };
+enum { THEN = 0x60000001, OR = 0x60000002, STAR = 0x60000003 };
 
 extern const struct span none;
 
-/* What is asked about, and printed where a test stops: a part or a whole, its root and its stopped nodes, and a path. */
-extern struct draft plant, path;
+/* What is asked about, and printed where a test stops: a part or a whole, its root and its stopped nodes, groups if there are any, and a path. */
+extern struct draft plant, groups, path;
 extern uint32_t root;
 extern struct nodes stopped;
 
@@ -21,12 +22,23 @@ extern struct nodes stopped;
 void draw_plant(bool whole, const uint32_t *labels, uint32_t count);
 /* A site for each node of the plant, until the next draw. */
 struct span draw_cuts(void);
+uint32_t range(uint32_t low, uint32_t high);
+/* A range with two of the labels given as its ends. */
+uint32_t draw_range(const uint32_t *labels, uint32_t count);
+/* Draws a path of at most so many label words, which `letter` draws. */
+void draw_path(uint32_t most, uint32_t (*letter)(void));
+/* Ends a path whose words stand behind the room for its header. */
+void end_path(struct draft *d);
+/* Calls at doors of the plant, stopped or not, in the states of the path. */
+struct draft draw_calls(void);
 
 struct draft written(enum call name, const struct draft *x, struct span y, struct span z);
 /* Each site's part of a whole. */
 void cut_up(const struct draft *whole, struct span cuts, struct draft parts[SITES]);
-/* The joined list of the parts, for a path. */
-struct draft joined(const struct draft parts[SITES], struct span asked);
+/* The joined list of the parts, for a path, by groups or, where there are none, by the calls without. */
+struct draft joined(const struct draft parts[SITES], struct span by, struct span asked);
+bool equal(const struct draft *a, const struct draft *b);
+_Noreturn void fail(const char *what);
 void must_be(const char *what, struct draft expected, struct draft got);
 
 #endif

@@ -1,6 +1,6 @@
-/* Questions from end to end, as a host asks them: document 01's whole W, cut at 0, 1, 0, and its path P; then plants with a stopped node, and
-   paths of labels outside a range. Each site and the hub are played in turn; the joined list must be the old search's. Prints every file that
-   goes over a line. */
+/* Questions from end to end, as a host asks them: document 01's whole W, cut at 0, 1, 0, and its path P; then plants with a stopped node, paths
+   of labels outside a range, and a path of groups, by ours and by a press maker's. Each site and the hub are played in turn; the joined list must
+   be the old search's. Prints every file that goes over a line. */
 #include <inttypes.h>
 #include <stdio.h>
 #include <stdlib.h>
@@ -16,36 +16,48 @@ struct file {
     uint8_t bytes[MOWQACHI_LIST_BYTES];
 };
 
-static struct file whole, path, parts[SITES], firsts[SITES], calls, seconds[SITES], bundle, joined, old;
+static struct file whole, groups, path, parts[SITES], firsts[SITES], calls, seconds[SITES], bundle, joined, old;
 static const uint8_t cuts[] = {0, 1, 0};
 static uint8_t work[MOWQACHI_WORK_BYTES];
 
 #define W {0x10000007, 0x20030001, 0x30050002, 0x20000002, 0x30060003, 0x20000003, 0x30050002}
 #define HALTED {0x10000007, 0x20030001, 0x30050002, 0x20000002, 0x30060003, 0x20040003, 0x30050002}
 #define P {0x40300007, 0x50005005, 0x50006006, 0x50005005, 0x60000001, 0x60000003, 0x60000001}
+#define GROUPED {0x40300007, 0x51000006, 0x51000001, 0x51000006, 0x60000001, 0x60000003, 0x60000001}
+
+/* 5, 6, 5 to 6, all labels, 0, 2048 to 4095, 5 again, 4095. */
+static const uint32_t makers[] = {0x50005005, 0x50006006, 0x50006005, 0x50fff000, 0x50000000, 0x50fff800, 0x50005005, 0x50ffffff};
 
 static const struct question {
     const char *name;
     size_t nodes;       /* bytes of the cut list */
     uint32_t whole[7], path[7];
+    const uint32_t *groups;     /* NULL: ours */
 } questions[] = {
-    {"document 01: 5 then (6 then 5)*", 3, W, P},
-    {"node 3 stopped: 5 then (6 then 5)*", 3, HALTED, P},
-    {"node 3 stopped: 5 then 6, which ends there", 3, HALTED, {0x40200004, 0x50005005, 0x50006006, 0x60000001}},
-    {"node 3 stopped: 5 then 6 then 5, through it", 3, HALTED, {0x40300006, 0x50005005, 0x50006006, 0x60000001, 0x50005005, 0x60000001}},
-    {"the root stopped: the empty word", 1, {0x10000002, 0x20070001}, {0x40000002, 0x60000000}},
+    {"document 01: 5 then (6 then 5)*", 3, W, P, NULL},
+    {"node 3 stopped: 5 then (6 then 5)*", 3, HALTED, P, NULL},
+    {"node 3 stopped: 5 then 6, which ends there", 3, HALTED, {0x40200004, 0x50005005, 0x50006006, 0x60000001}, NULL},
+    {"node 3 stopped: 5 then 6 then 5, through it", 3, HALTED, {0x40300006, 0x50005005, 0x50006006, 0x60000001, 0x50005005, 0x60000001}, NULL},
+    {"the root stopped: the empty word", 1, {0x10000002, 0x20070001}, {0x40000002, 0x60000000}, NULL},
     {"any link but 6, then (any but 5, any but 6)*: as document 01's path", 3, W,
-     {0x40300007, 0x52006006, 0x52005005, 0x52006006, 0x60000001, 0x60000003, 0x60000001}},
-    {"any number of links but 6", 3, W, {0x40100003, 0x52006006, 0x60000003}},
-    {"any number of links but 0 to 4095, of which there are none", 3, W, {0x40100003, 0x52fff000, 0x60000003}},
+     {0x40300007, 0x52006006, 0x52005005, 0x52006006, 0x60000001, 0x60000003, 0x60000001}, NULL},
+    {"any number of links but 6", 3, W, {0x40100003, 0x52006006, 0x60000003}, NULL},
+    {"any number of links but 0 to 4095, of which there are none", 3, W, {0x40100003, 0x52fff000, 0x60000003}, NULL},
+    {"group 6 then (group 1 then group 6)*, and no link is in our group 6", 3, W, GROUPED, NULL},
+    {"the same with a press maker's groups: as document 01's path", 3, W, GROUPED, makers},
 };
+
+static void put_words(struct file *f, const uint32_t *words, size_t count)
+{
+    f->len = 4 * count;
+    for (size_t i = 0; i < f->len; i++)
+        f->bytes[i] = (uint8_t)(words[i / 4] >> 8 * (i % 4));
+}
 
 /* Words that begin with a header, which tells how many there are. */
 static void put_file(struct file *f, const uint32_t *words)
 {
-    f->len = 4 * (words[0] & 0x3fffu);
-    for (size_t i = 0; i < f->len; i++)
-        f->bytes[i] = (uint8_t)(words[i / 4] >> 8 * (i % 4));
+    put_words(f, words, words[0] & 0x3fffu);
 }
 
 static void print_file(const char *name, const struct file *f)
@@ -84,35 +96,62 @@ static void cut_whole(size_t nodes)
              &parts[s]);
 }
 
+static uint32_t first_reply(const struct file *part, struct file *out)
+{
+    if (groups.len == 0)
+        return mowqachi_first_reply(part->bytes, part->len, path.bytes, path.len, out->bytes, sizeof out->bytes, work, sizeof work);
+    return mowqachi_first_reply_grouped(part->bytes, part->len, groups.bytes, groups.len, path.bytes, path.len,
+                                        out->bytes, sizeof out->bytes, work, sizeof work);
+}
+
 static void first_trip(void)
 {
     for (int s = 0; s < SITES; s++)
-        take("first reply", mowqachi_first_reply(parts[s].bytes, parts[s].len, path.bytes, path.len,
-                                                 firsts[s].bytes, sizeof firsts[s].bytes, work, sizeof work), &firsts[s]);
+        take("first reply", first_reply(&parts[s], &firsts[s]), &firsts[s]);
     bundle_up(firsts);
     take("call list", mowqachi_call_list(bundle.bytes, bundle.len, calls.bytes, sizeof calls.bytes, work, sizeof work), &calls);
+}
+
+/* By the groups of the first trip. */
+static uint32_t second_reply(const struct file *part, struct file *out)
+{
+    if (groups.len == 0)
+        return mowqachi_second_reply(part->bytes, part->len, path.bytes, path.len, calls.bytes, calls.len,
+                                     out->bytes, sizeof out->bytes, work, sizeof work);
+    return mowqachi_second_reply_grouped(part->bytes, part->len, groups.bytes, groups.len, path.bytes, path.len, calls.bytes, calls.len,
+                                         out->bytes, sizeof out->bytes, work, sizeof work);
 }
 
 static void second_trip(void)
 {
     for (int s = 0; s < SITES; s++)
-        take("second reply", mowqachi_second_reply(parts[s].bytes, parts[s].len, path.bytes, path.len, calls.bytes, calls.len,
-                                                   seconds[s].bytes, sizeof seconds[s].bytes, work, sizeof work), &seconds[s]);
+        take("second reply", second_reply(&parts[s], &seconds[s]), &seconds[s]);
     bundle_up(seconds);
     take("final list", mowqachi_join(bundle.bytes, bundle.len, joined.bytes, sizeof joined.bytes, work, sizeof work), &joined);
+}
+
+static uint32_t old_search(void)
+{
+    if (groups.len == 0)
+        return mowqachi_old_search(whole.bytes, whole.len, path.bytes, path.len, old.bytes, sizeof old.bytes, work, sizeof work);
+    return mowqachi_old_search_grouped(whole.bytes, whole.len, groups.bytes, groups.len, path.bytes, path.len,
+                                       old.bytes, sizeof old.bytes, work, sizeof work);
 }
 
 static void ask(const struct question *q)
 {
     printf("%s\n", q->name);
     put_file(&whole, q->whole);
+    put_words(&groups, q->groups, q->groups == NULL ? 0 : MOWQACHI_GROUP_COUNT);
     put_file(&path, q->path);
     print_file("whole", &whole);
+    if (groups.len > 0)
+        print_file("groups", &groups);
     print_file("path", &path);
     cut_whole(q->nodes);
     first_trip();
     second_trip();
-    take("old search", mowqachi_old_search(whole.bytes, whole.len, path.bytes, path.len, old.bytes, sizeof old.bytes, work, sizeof work), &old);
+    take("old search", old_search(), &old);
     if (memcmp(joined.bytes, old.bytes, sizeof old.bytes) != 0) {
         printf("the two lists differ\n");
         exit(1);

@@ -12,7 +12,7 @@
 #include "drafts.h"
 
 /* No call may need more than BOUND bytes: docs/CALLS.md says so. */
-enum { STACK = 65536, GUARD = 4096, PAINT = 0xc3, RED_ZONE = 128, BOUND = 1536, MOST_JOBS = 32 };
+enum { STACK = 65536, GUARD = 4096, PAINT = 0xc3, RED_ZONE = 128, BOUND = 1280, MOST_JOBS = 64 };
 
 /* A call to be made on the small stack, and what came of it. */
 struct job {
@@ -66,14 +66,15 @@ static void fill_outside(struct draft *f)
     end_file(f, 0, 0x10000000);
 }
 
-/* 64 words and 15 labels: an empty word, then full ranges and all labels but 4095 by turns. Once as many wait as may, an operator stands behind
-   each; the other operators follow, then stars. */
+/* 64 words and 15 labels: an empty word, then full ranges, all labels but 4095, and groups by turns. Once as many wait as may, an operator stands
+   behind each; the other operators follow, then stars. */
 static void fill_path(struct draft *f, uint32_t operator)
 {
+    static const uint32_t labels[] = {0x50fff000, 0x52ffffff, 0x51000000};
     f->len = 4;
     put(f, 0x60000000);
     for (int i = 0; i < MOWQACHI_PATH_LABELS; i++) {
-        put(f, i % 2 == 0 ? 0x50fff000 : 0x52ffffff);
+        put(f, labels[i % 3]);
         if (i + 2 >= MOWQACHI_WAITING)
             put(f, operator);
     }
@@ -127,9 +128,13 @@ static void fill_words(struct draft *f, uint32_t header, uint32_t first)
     end_file(f, from, header);
 }
 
+/* A call, and where it reads a path also the one with groups. */
 static void add(enum call call, uint32_t expected, struct span a, struct span b, struct span c)
 {
-    jobs[job_count++] = (struct job){.asked = {call, {a, b, c}, 0}, .expected = expected};
+    struct asked asked = {call, {a, b, c}, 0};
+    jobs[job_count++] = (struct job){.asked = asked, .expected = expected};
+    if (reads_path(call))
+        jobs[job_count++] = (struct job){.asked = with_groups(&asked, our_groups), .expected = expected};
 }
 
 static void add_searches(void)
@@ -214,8 +219,10 @@ static void finish(struct job *job)
         fail("no end of a thread");
     if (job->number != job->expected)
         fail("another number than expected");
-    if (job->depth >= BOUND)
+    if (job->depth >= BOUND) {
+        printf("%s: %zu bytes: ", call_names[job->asked.call], job->depth);
         fail("more stack than docs/CALLS.md says");
+    }
     free(job->work);
 }
 
@@ -226,7 +233,7 @@ static void report(void)
         for (int k = 0; k < job_count; k++)
             if (jobs[k].asked.call == (enum call)c && jobs[k].depth > deepest)
                 deepest = jobs[k].depth;
-        printf("%-12s %5zu bytes of stack\n", call_names[c], deepest);
+        printf("%-20s %5zu bytes of stack\n", call_names[c], deepest);
     }
 }
 

@@ -30,27 +30,12 @@ static uint32_t header_of(const struct draft *d)
     return word_at(span_of(d), 0) & 0xffffc000u;
 }
 
-static void draw_path(void)
+static void pick_path(void)
 {
     const uint32_t *words = paths[draw(sizeof paths / sizeof *paths)];
     path.len = 0;
     for (size_t i = 0; i < length_of(words[0]); i++)
         put(&path, words[i]);
-}
-
-/* Calls at doors of the part, stopped or not. */
-static struct draft draw_calls(void)
-{
-    struct draft d = {.len = 4};
-    uint32_t n = n_of(word_at(span_of(&path), 0));
-    for (size_t i = 1; i < words_of(span_of(&plant)); i++) {
-        uint32_t w = word_at(span_of(&plant), i);
-        for (uint32_t q = 0; kind_of(w) == NODE && door_bit(w) && q <= n; q++)
-            if (draw(2) == 0)
-                put(&d, 0xc0000000 + 16 * node_of(w) + q);
-    }
-    end_file(&d, 0, 0xb0000000 + (n << 20));
-    return d;
 }
 
 /* The plant without its stopped nodes, their links and the links to them. */
@@ -105,7 +90,7 @@ static struct draft with_doors(const struct draft *reply)
 static void check_part(void)
 {
     draw_plant(false, labels, LABELS);
-    draw_path();
+    pick_path();
     struct draft rest = without_stopped(), calls = draw_calls();
     struct draft reply = written(FIRST_REPLY, &rest, span_of(&path), none);
     must_be("first reply", with_doors(&reply), written(FIRST_REPLY, &plant, span_of(&path), none));
@@ -130,7 +115,7 @@ static void check_whole(void)
     static struct draft parts[SITES];
     struct draft expected = {.len = 4};
     draw_plant(true, labels, LABELS);
-    draw_path();
+    pick_path();
     end_file(&expected, 0, 0xf0000000);
     if (!has_node(&stopped, root)) {
         struct draft rest = without_stopped();
@@ -138,7 +123,7 @@ static void check_whole(void)
     }
     must_be("old search", expected, written(OLD_SEARCH, &plant, span_of(&path), none));
     cut_plant(parts);
-    must_be("joined list", expected, joined(parts, span_of(&path)));
+    must_be("joined list", expected, joined(parts, none, span_of(&path)));
 }
 
 int main(int argc, char **argv)

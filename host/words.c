@@ -59,14 +59,6 @@ bool holds_none(uint32_t label)
     return sort_of(label) == OUTSIDE && low_of(label) == 0 && high_of(label) == MOWQACHI_LABELS - 1;
 }
 
-void group_ends(unsigned group, unsigned *low, unsigned *high)
-{
-    static const unsigned ends[8][2] = {
-        {0, 4095}, {0, 1023}, {0, 255}, {1024, 1535}, {1536, 1791}, {1792, 2047}, {2048, 3071}, {4032, 4095}};
-    *low = ends[group][0];
-    *high = ends[group][1];
-}
-
 void add_node(struct nodes *set, unsigned x)
 {
     set->bits[x / 8] |= (uint8_t)(1u << x % 8);

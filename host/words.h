@@ -53,7 +53,6 @@ unsigned state_of(uint32_t w);    /* of a row, reach or call word */
 
 /* An outside word that leaves out every label. */
 bool holds_none(uint32_t label);
-void group_ends(unsigned group, unsigned *low, unsigned *high);
 
 void add_node(struct nodes *set, unsigned x);
 bool has_node(const struct nodes *set, unsigned x);

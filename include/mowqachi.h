@@ -1,5 +1,6 @@
 /* The split link search, for a C11 or C++ host. docs/CALLS.md tells which call belongs where, docs/FORMATS.md what every file, trip and
-   number is: document 01, and of document 02 the requests 1, labels outside a range, 7, stopped nodes, and 9, eight operands waiting.
+   number is: document 01, and of document 02 the requests 1, labels outside a range, 3, groups of the caller's own, 7, stopped nodes, and 9,
+   eight operands waiting.
 
    Buffers. A length is in bytes. Any alignment will do. Inputs are only read, and may overlap one another. The output and the working
    buffer overlap nothing: neither each other nor an input. A pointer is never null: where a length is 0, pass the address of any object.
@@ -10,13 +11,18 @@
    it. At any other number it is zero from end to end. The working buffer is zero after every call, to its full length.
 
    Order of checks: 1; then the inputs in the order of the parameters; then 15. In one input 2, 3, 4, then word by word 5, 10, 6, 7, 9,
-   then at its end 5, 7, 8, 9. A cut list has only 11, and so has the site asked, after it. In a bundle 2, then file by file as above,
-   then over all files 12, 7, 13, 14. A call list by itself, then 12 against the path and 14 against the part. The first check that fails
-   gives the number.
+   then at its end 5, 7, 8, 9. A cut list has only 11, and so has the site asked, after it. Groups have only 16. In a bundle 2, then file by
+   file as above, then over all files 12, 7, 13, 14. A call list by itself, then 12 against the path and 14 against the part. The first check
+   that fails gives the number.
 
    Labels outside a range. A path's label word of sort 2 (bits 27..24) has a range's fields, the high end in 23..12 and the low end in 11..0,
    and holds the labels below the low end and those above the high one: any label but 5 is 0x52005005. The low end is not above the high one.
    Sorts 3 to 15 are refused.
+
+   Groups. A call whose name ends in _grouped also takes the eight groups for this call: a range word for each, word g for the group word
+   0x51000000 + g of the path. They may overlap, be equal and hold one label alone. A call without that ending leaves just what the one with it
+   leaves for mowqachi_our_groups. Groups travel beside the path and stand in no file and in no reply: the host sees to it that all sites of a
+   question have the same, in both trips. If they have not, nothing is promised, and no check sees it. The hub's calls and the cutter take none.
 
    Stopped nodes. Bit 18 of a node word says that the node is stopped; bits 27..19 are zero. No walk starts at a stopped node or enters one.
    The host sets and clears the bit in its parts and wholes. */
@@ -40,18 +46,22 @@ extern "C" {
 
 /* The bytes of an output, at least. */
 #define MOWQACHI_PART_BYTES 16384  /* mowqachi_cut */
-#define MOWQACHI_REPLY_BYTES 16384 /* mowqachi_first_reply, mowqachi_second_reply */
+#define MOWQACHI_REPLY_BYTES 16384 /* mowqachi_first_reply, mowqachi_second_reply, and with groups */
 #define MOWQACHI_CALLS_BYTES 16384 /* mowqachi_call_list */
-#define MOWQACHI_LIST_BYTES 32768  /* mowqachi_old_search, mowqachi_join */
+#define MOWQACHI_LIST_BYTES 32768  /* mowqachi_old_search, and with groups; mowqachi_join */
 
 /* The bytes of the working buffer, at least, in every call. */
 #define MOWQACHI_WORK_BYTES 32768
 
-/* How many there are: sites 0 to 15, states 0 to 15, labels 0 to 4,095, nodes 0 to 65,535. */
+/* The bytes of groups, just so many. */
+#define MOWQACHI_GROUPS_BYTES 32
+
+/* How many there are: sites 0 to 15, states 0 to 15, labels 0 to 4,095, nodes 0 to 65,535, groups 0 to 7. */
 #define MOWQACHI_SITES 16
 #define MOWQACHI_STATES 16
 #define MOWQACHI_LABELS 4096
 #define MOWQACHI_NODES 65536
+#define MOWQACHI_GROUP_COUNT 8
 
 /* In a path: label words at most, and operands that wait after any word at most. */
 #define MOWQACHI_PATH_LABELS 15
@@ -74,7 +84,20 @@ enum mowqachi_number {
     MOWQACHI_BUNDLE = 12,  /* site twice or different n in a bundle; call list's n not the path's */
     MOWQACHI_TWICE = 13,   /* a door or answer node in two files */
     MOWQACHI_DOOR = 14,    /* a reach word's node is no door of the bundle; a called node of the part is no door */
-    MOWQACHI_RESULT = 15   /* result over its limit */
+    MOWQACHI_RESULT = 15,  /* result over its limit */
+    MOWQACHI_GROUPS = 16   /* groups not just eight words, or with a word that is no range or has its low end above its high end */
+};
+
+/* Our eight groups, as words: 0x50000000 + high end * 4,096 + low end. In the memory of x86-64 they are the bytes that a call takes. */
+static const uint32_t mowqachi_our_groups[MOWQACHI_GROUP_COUNT] = {
+    0x50fff000, /* 0 to 4095 */
+    0x503ff000, /* 0 to 1023 */
+    0x500ff000, /* 0 to 255 */
+    0x505ff400, /* 1024 to 1535 */
+    0x506ff600, /* 1536 to 1791 */
+    0x507ff700, /* 1792 to 2047 */
+    0x50bff800, /* 2048 to 3071 */
+    0x50ffffc0  /* 4032 to 4095 */
 };
 
 /* The bytes of the file that begins here, from its header: what a host hands on of an output. */
@@ -109,6 +132,21 @@ uint32_t mowqachi_second_reply(const uint8_t *part, size_t part_len, const uint8
 
 /* Second trip, at the hub: the final list of a bundle of second replies, one after another. Output: MOWQACHI_LIST_BYTES. */
 uint32_t mowqachi_join(const uint8_t *bundle, size_t bundle_len, uint8_t *out, size_t out_len, uint8_t *work, size_t work_len);
+
+/* The old search with groups of the caller's own. Output: MOWQACHI_LIST_BYTES. */
+uint32_t mowqachi_old_search_grouped(const uint8_t *whole, size_t whole_len, const uint8_t *groups, size_t groups_len,
+                                     const uint8_t *path, size_t path_len,
+                                     uint8_t *out, size_t out_len, uint8_t *work, size_t work_len);
+
+/* First trip, at a site, with groups of the caller's own, the same at every site. Output: MOWQACHI_REPLY_BYTES. */
+uint32_t mowqachi_first_reply_grouped(const uint8_t *part, size_t part_len, const uint8_t *groups, size_t groups_len,
+                                      const uint8_t *path, size_t path_len,
+                                      uint8_t *out, size_t out_len, uint8_t *work, size_t work_len);
+
+/* Second trip, at a site, with the groups of the first trip. Output: MOWQACHI_REPLY_BYTES. */
+uint32_t mowqachi_second_reply_grouped(const uint8_t *part, size_t part_len, const uint8_t *groups, size_t groups_len,
+                                       const uint8_t *path, size_t path_len, const uint8_t *calls, size_t calls_len,
+                                       uint8_t *out, size_t out_len, uint8_t *work, size_t work_len);
 
 #ifdef __cplusplus
 }

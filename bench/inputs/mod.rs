@@ -3,13 +3,15 @@ mod bundles;
 mod parts;
 mod paths;
 
-use crate::words::bytes;
+use crate::words::{bytes, OURS};
 use parts::Doors;
 
 /// What a call is asked: a part, a whole or a bundle, and whatever else the call takes.
 #[derive(Clone, Default)]
 pub struct Ask {
     pub file: Vec<u8>,
+    /// Read by the grouped calls alone.
+    pub groups: Vec<u8>,
     pub path: Vec<u8>,
     pub cuts: Vec<u8>,
     pub site: u32,
@@ -36,7 +38,7 @@ impl Draws {
 }
 
 fn search(part: Vec<u32>, path: Vec<u32>) -> Ask {
-    Ask { file: bytes(&part), path: bytes(&path), ..Ask::default() }
+    Ask { file: bytes(&part), groups: bytes(&OURS), path: bytes(&path), ..Ask::default() }
 }
 
 pub fn old_search() -> Vec<Shape> {
@@ -53,7 +55,12 @@ pub fn old_search() -> Vec<Shape> {
         shape("three random links, eight operands waiting", |n| {
             search(parts::random(n, 3, Doors::Root), paths::eight_waiting(paths::half_ranges()))
         }),
+        old_search_of_groups(),
     ]
+}
+
+pub fn old_search_of_groups() -> Shape {
+    shape("three random links, groups", |n| search(parts::random(n, 3, Doors::Root), paths::groups()))
 }
 
 fn cutting(whole: Vec<u32>, sites: u32) -> Ask {
@@ -90,7 +97,12 @@ pub fn first_reply() -> Vec<Shape> {
         shape("two random links, fifteen turns, all doors, eight operands waiting", |n| {
             search(parts::random(n, 2, Doors::All), paths::eight_waiting(paths::turns()))
         }),
+        first_reply_of_groups(),
     ]
+}
+
+pub fn first_reply_of_groups() -> Shape {
+    shape("two random links, all doors, groups", |n| search(parts::random(n, 2, Doors::All), paths::groups()))
 }
 
 pub fn call_list() -> Vec<Shape> {
@@ -135,7 +147,12 @@ pub fn second_reply() -> Vec<Shape> {
         shape("three random links, all called, eight operands waiting", |n| {
             all_called(parts::random(n, 3, Doors::All), paths::eight_waiting(paths::half_ranges()), n)
         }),
+        second_reply_of_groups(),
     ]
+}
+
+pub fn second_reply_of_groups() -> Shape {
+    shape("three random links, all called, groups", |n| all_called(parts::random(n, 3, Doors::All), paths::groups(), n))
 }
 
 pub fn join() -> Vec<Shape> {

@@ -56,6 +56,11 @@ pub fn outside_halves() -> Vec<u32> {
     halves(outside)
 }
 
+/// A star of an or of fifteen groups, each of the eight by turns.
+pub fn groups() -> Vec<u32> {
+    star_of_or((0..15).map(|k| group(k % 8)))
+}
+
 /// A star of fifteen labels under one operator, with the same states and steps but eight operands waiting: eight labels and their operators,
 /// the other seven and theirs.
 pub fn eight_waiting(path: Vec<u32>) -> Vec<u32> {

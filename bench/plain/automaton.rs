@@ -1,8 +1,6 @@
 //! A path and its position automaton.
-use super::files::{file, unless};
+use super::files::{file, groups, unless};
 use crate::words::*;
-
-const GROUPS: [(u32, u32); 8] = [(0, 4095), (0, 1023), (0, 255), (1024, 1535), (1536, 1791), (1792, 2047), (2048, 3071), (4032, 4095)];
 
 /// At most so many operands wait at any word.
 const MOST_WAITING: usize = 8;
@@ -49,12 +47,12 @@ fn link(follow: &mut [u16; 16], ends: u16, begins: u16) {
     (0..16).filter(|q| ends >> q & 1 == 1).for_each(|q| follow[q] |= begins);
 }
 
-/// The ends of a label word's range.
-fn letter(w: u32) -> Result<(u32, u32), u32> {
-    let (high, low) = (w >> 12 & 0xfff, w & 0xfff);
+/// The ends of a label word's range; a group has those of its own word.
+fn letter(w: u32, groups: &Groups) -> Result<(u32, u32), u32> {
+    let (low, high) = ends(w);
     match sort(w) {
         0 | 2 => unless(5, low <= high).map(|_| (low, high)),
-        1 => unless(5, w & 0x00ff_fff8 == 0).map(|_| GROUPS[(w & 7) as usize]),
+        1 => unless(5, w & 0x00ff_fff8 == 0).map(|_| ends(groups[(w & 7) as usize])),
         _ => Err(5),
     }
 }
@@ -80,13 +78,15 @@ fn operate(op: u32, stack: &mut Vec<Operand>, follow: &mut [u16; 16]) -> Result<
     Ok(())
 }
 
-pub fn path(bytes: &[u8]) -> Result<Automaton, u32> {
+/// A path, and ahead of it the groups that the call is handed, if it is.
+pub fn path(bytes: &[u8], handed: Option<&[u8]>) -> Result<Automaton, u32> {
+    let groups = groups(handed)?;
     let ws = file(bytes, 64, 4, 0x0f00_0000)?;
     let (mut stack, mut follow, mut ends, mut outside) = (Vec::with_capacity(MOST_WAITING + 1), [0; 16], Vec::with_capacity(16), 0);
     for &w in &ws[1..] {
         match kind(w) {
             5 => {
-                ends.push(letter(w)?);
+                ends.push(letter(w, &groups)?);
                 // a sixteenth label is refused at the end
                 let only = 1u16.checked_shl(ends.len() as u32).unwrap_or(0);
                 outside |= if sort(w) == 2 { only } else { 0 };

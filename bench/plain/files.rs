@@ -51,6 +51,20 @@ pub fn file(bytes: &[u8], limit: usize, kind_is: u32, unused: u32) -> Outcome {
     Ok(ws)
 }
 
+/// The groups that a call is handed: 16, unless they are eight ranges. Ours, where it is handed none.
+pub fn groups(handed: Option<&[u8]>) -> Result<Groups, u32> {
+    let mut groups = OURS;
+    if let Some(bytes) = handed {
+        unless(16, bytes.len() == 32)?;
+        for (group, w) in groups.iter_mut().zip(words(bytes)) {
+            let (low, high) = ends(w);
+            unless(16, kind(w) == 5 && sort(w) == 0 && low <= high)?;
+            *group = w;
+        }
+    }
+    Ok(groups)
+}
+
 /// A call list.
 pub fn calls(bytes: &[u8]) -> Outcome {
     let ws = file(bytes, 4096, 11, 0x0f00_0000)?;

@@ -38,9 +38,9 @@ pub fn door_words(ws: &[u32], a: &Automaton, graph: &Graph, mut each: impl FnMut
 
 /// A search for every door and state. The marks of one that reached nothing outside stay: whatever they have leads nowhere outside, so no
 /// later search need enter it.
-fn reply(ask: &Ask) -> Outcome {
+fn reply(ask: &Ask, handed: Option<&[u8]>) -> Outcome {
     let ws = part(&ask.file)?;
-    let a = path(&ask.path)?;
+    let a = path(&ask.path, handed)?;
     let graph = Graph::new(&ws, &a);
     let mut search = Search::new(&graph, &a);
     door_words(&ws, &a, &graph, |i, q, list| {
@@ -56,5 +56,9 @@ fn reply(ask: &Ask) -> Outcome {
 }
 
 pub fn first_reply(ask: &Ask, out: &mut [u8], work: &mut [u8]) -> u32 {
-    settle(4096, out, work, || reply(ask))
+    settle(4096, out, work, || reply(ask, None))
+}
+
+pub fn first_reply_grouped(ask: &Ask, out: &mut [u8], work: &mut [u8]) -> u32 {
+    settle(4096, out, work, || reply(ask, Some(&ask.groups)))
 }

@@ -15,10 +15,16 @@ pub fn final_list(graph: &Graph, a: &Automaton) -> Outcome {
     Ok(answers(&search, a.accepts, header(15, 0, 0)))
 }
 
+fn list(ask: &Ask, handed: Option<&[u8]>) -> Outcome {
+    let ws = whole(&ask.file)?;
+    let a = path(&ask.path, handed)?;
+    final_list(&Graph::new(&ws, &a), &a)
+}
+
 pub fn old_search(ask: &Ask, out: &mut [u8], work: &mut [u8]) -> u32 {
-    settle(8192, out, work, || {
-        let ws = whole(&ask.file)?;
-        let a = path(&ask.path)?;
-        final_list(&Graph::new(&ws, &a), &a)
-    })
+    settle(8192, out, work, || list(ask, None))
+}
+
+pub fn old_search_grouped(ask: &Ask, out: &mut [u8], work: &mut [u8]) -> u32 {
+    settle(8192, out, work, || list(ask, Some(&ask.groups)))
 }

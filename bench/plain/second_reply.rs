@@ -33,9 +33,9 @@ pub fn called(nodes: &[u32], calls: &[u32]) -> Result<Vec<(usize, u16)>, u32> {
     Ok(pairs)
 }
 
-fn reply(ask: &Ask, graph: impl Fn(&[u32], &Automaton) -> Graph) -> Outcome {
+fn reply(ask: &Ask, handed: Option<&[u8]>, graph: impl Fn(&[u32], &Automaton) -> Graph) -> Outcome {
     let ws = part(&ask.file)?;
-    let a = path(&ask.path)?;
+    let a = path(&ask.path, handed)?;
     let cs = calls(&ask.calls)?;
     unless(12, labels(cs[0]) == a.n())?;
     let graph = graph(&ws, &a);
@@ -48,9 +48,13 @@ fn reply(ask: &Ask, graph: impl Fn(&[u32], &Automaton) -> Graph) -> Outcome {
 
 /// With the tables that `graph` makes.
 pub fn second_reply_by(ask: &Ask, out: &mut [u8], work: &mut [u8], graph: impl Fn(&[u32], &Automaton) -> Graph) -> u32 {
-    settle(4096, out, work, || reply(ask, graph))
+    settle(4096, out, work, || reply(ask, None, graph))
 }
 
 pub fn second_reply(ask: &Ask, out: &mut [u8], work: &mut [u8]) -> u32 {
     second_reply_by(ask, out, work, Graph::new)
+}
+
+pub fn second_reply_grouped(ask: &Ask, out: &mut [u8], work: &mut [u8]) -> u32 {
+    settle(4096, out, work, || reply(ask, Some(&ask.groups), Graph::new))
 }

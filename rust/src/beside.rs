@@ -1,24 +1,40 @@
 //! One call, made to the library in guarded buffers and given to the evaluation, and the two compared.
 
 use crate::calls;
-use crate::evaluation::path::{read_path, read_path_by, MayStand, Path};
 use crate::evaluation::words::*;
 use crate::evaluation::{self, Outcome, Room};
-use crate::mistakes::{mistaken, OUTSIDE, STOPPED, WAITING};
 use crate::random::Random;
 
+/// A call that reads a path is made with groups or without.
 #[derive(Clone, Debug)]
 pub enum Call {
-    OldSearch { whole: Vec<u8>, path: Vec<u8> },
+    OldSearch { whole: Vec<u8>, groups: Option<Vec<u8>>, path: Vec<u8> },
     Cut { whole: Vec<u8>, cuts: Vec<u8>, site: u32 },
-    FirstReply { part: Vec<u8>, path: Vec<u8> },
+    FirstReply { part: Vec<u8>, groups: Option<Vec<u8>>, path: Vec<u8> },
     CallList { bundle: Vec<u8> },
-    SecondReply { part: Vec<u8>, path: Vec<u8>, calls: Vec<u8> },
+    SecondReply { part: Vec<u8>, groups: Option<Vec<u8>>, path: Vec<u8>, calls: Vec<u8> },
     Join { bundle: Vec<u8> },
 }
 
+/// What a call leaves.
+#[derive(PartialEq, Eq, Debug)]
+pub struct Left {
+    pub number: u32,
+    out: Vec<u8>,
+    work: Vec<u8>,
+}
+
+impl Left {
+    fn owed(outcome: &Outcome, room: Room) -> Left {
+        let (number, words) = answer(outcome);
+        let mut out = bytes_of(&words);
+        out.resize(room.out, 0);
+        Left { number, out, work: vec![0; room.work] }
+    }
+}
+
 impl Call {
-    pub fn name(&self) -> &'static str {
+    fn name(&self) -> &'static str {
         match self {
             Call::OldSearch { .. } => "old search",
             Call::Cut { .. } => "cut",
@@ -38,116 +54,119 @@ impl Call {
         Room { out: 4 * limit, work: WORK_BYTES }
     }
 
-    fn inputs(&self) -> Vec<&[u8]> {
+    /// The same call with these groups, or without any; `None` of one that reads no path.
+    pub fn with(&self, other: Option<&[u8]>) -> Option<Call> {
+        let mut call = self.clone();
+        match &mut call {
+            Call::OldSearch { groups, .. }
+            | Call::FirstReply { groups, .. }
+            | Call::SecondReply { groups, .. } => *groups = other.map(<[u8]>::to_vec),
+            _ => return None,
+        }
+        Some(call)
+    }
+
+    /// The groups, if it is made with any, and the path; `None` of a call that reads no path.
+    pub fn groups_and_path(&self) -> Option<(Option<&[u8]>, &[u8])> {
         match self {
-            Call::OldSearch { whole, path } => vec![whole, path],
-            Call::Cut { whole, cuts, .. } => vec![whole, cuts],
-            Call::FirstReply { part, path } => vec![part, path],
-            Call::SecondReply { part, path, calls } => vec![part, path, calls],
-            Call::CallList { bundle } | Call::Join { bundle } => vec![bundle],
+            Call::OldSearch { groups, path, .. }
+            | Call::FirstReply { groups, path, .. }
+            | Call::SecondReply { groups, path, .. } => Some((groups.as_deref(), path)),
+            _ => None,
         }
     }
 
-    fn evaluate(&self, room: Room) -> Outcome {
+    fn inputs(&self) -> Vec<&[u8]> {
+        let inputs = match self {
+            Call::OldSearch { whole, groups, path } => [Some(whole), groups.as_ref(), Some(path), None],
+            Call::Cut { whole, cuts, .. } => [Some(whole), Some(cuts), None, None],
+            Call::FirstReply { part, groups, path } => [Some(part), groups.as_ref(), Some(path), None],
+            Call::SecondReply { part, groups, path, calls } => {
+                [Some(part), groups.as_ref(), Some(path), Some(calls)]
+            }
+            Call::CallList { bundle } | Call::Join { bundle } => [Some(bundle), None, None, None],
+        };
+        inputs.into_iter().flatten().map(Vec::as_slice).collect()
+    }
+
+    pub fn evaluate(&self, room: Room) -> Outcome {
         match self {
-            Call::OldSearch { whole, path } => evaluation::old_search(whole, path, room),
+            Call::OldSearch { whole, groups, path } => {
+                evaluation::old_search(whole, groups.as_deref(), path, room)
+            }
             Call::Cut { whole, cuts, site } => evaluation::cut(whole, cuts, *site, room),
-            Call::FirstReply { part, path } => evaluation::first_reply(part, path, room),
+            Call::FirstReply { part, groups, path } => {
+                evaluation::first_reply(part, groups.as_deref(), path, room)
+            }
             Call::CallList { bundle } => evaluation::call_list(bundle, room),
-            Call::SecondReply { part, path, calls } => evaluation::second_reply(part, path, calls, room),
+            Call::SecondReply { part, groups, path, calls } => {
+                evaluation::second_reply(part, groups.as_deref(), path, calls, room)
+            }
             Call::Join { bundle } => evaluation::join(bundle, room),
         }
     }
 
-    /// The call with its plant's and path's words taken for others, if any of them is.
-    fn mistaken(&self, taken: fn(u32) -> u32) -> Option<Call> {
-        let mut call = self.clone();
-        let files = match &mut call {
-            Call::OldSearch { whole, path } => vec![whole, path],
-            Call::Cut { whole, .. } => vec![whole],
-            Call::FirstReply { part, path } | Call::SecondReply { part, path, .. } => vec![part, path],
-            Call::CallList { .. } | Call::Join { .. } => vec![],
-        };
-        let mut changed = false;
-        for file in files {
-            if let Some(others) = mistaken(&words_of(file, FILE_LIMIT).ok()?, taken) {
-                *file = bytes_of(&others);
-                changed = true;
+    /// A call that has groups has an input more.
+    fn make(&self, given: &[&[u8]], out: &mut [u8], work: &mut [u8]) -> u32 {
+        match (self, given) {
+            (Call::OldSearch { .. }, [whole, path]) => calls::old_search(whole, path, out, work),
+            (Call::OldSearch { .. }, [whole, groups, path]) => {
+                calls::old_search_grouped(whole, groups, path, out, work)
             }
-        }
-        changed.then_some(call)
-    }
-
-    /// Whether a program that makes this mistake would give another outcome of an accepted call.
-    fn misread(&self, room: Room, outcome: &Outcome, taken: fn(u32) -> u32) -> bool {
-        outcome.is_ok() && self.mistaken(taken).map_or(false, |call| call.evaluate(room) != *outcome)
-    }
-
-    /// Whether a program that holds words to this rule would give another number: the call comes to its path, and the path's number is
-    /// another. No check behind the path's gives 9, so the call's number is another too.
-    fn miscounted(&self, outcome: &Outcome, may_stand: MayStand) -> bool {
-        let path = match self {
-            Call::OldSearch { path, .. } | Call::FirstReply { path, .. } | Call::SecondReply { path, .. } => {
-                path
+            (Call::Cut { site, .. }, [whole, cuts]) => calls::cut(whole, cuts, *site, out, work),
+            (Call::FirstReply { .. }, [part, path]) => calls::first_reply(part, path, out, work),
+            (Call::FirstReply { .. }, [part, groups, path]) => {
+                calls::first_reply_grouped(part, groups, path, out, work)
             }
-            _ => return false,
-        };
-        let ahead = |refusal: &Refusal| ["buffers", "whole", "part"].contains(&refusal.input);
-        let number = |read: Result<Path, Refusal>| read.err().map(|refusal| refusal.number);
-        !outcome.as_ref().err().map_or(false, ahead)
-            && number(read_path_by(path, may_stand)) != number(read_path(path))
-    }
-
-    /// The mistakes by which a program would give another outcome: in reading the words of an accepted call, in counting the operands of any.
-    pub fn finds_out(&self, room: Room, outcome: &Outcome) -> Vec<&'static str> {
-        let misread = STOPPED.iter().chain(&OUTSIDE).filter(|(_, taken)| self.misread(room, outcome, *taken));
-        let miscounted = WAITING.iter().filter(|(_, may_stand)| self.miscounted(outcome, *may_stand));
-        misread.map(|(what, _)| *what).chain(miscounted.map(|(what, _)| *what)).collect()
-    }
-
-    fn make(&self, given: &[Guarded], out: &mut [u8], work: &mut [u8]) -> u32 {
-        match self {
-            Call::OldSearch { .. } => calls::old_search(given[0].inner(), given[1].inner(), out, work),
-            Call::Cut { site, .. } => calls::cut(given[0].inner(), given[1].inner(), *site, out, work),
-            Call::FirstReply { .. } => calls::first_reply(given[0].inner(), given[1].inner(), out, work),
-            Call::SecondReply { .. } => {
-                let [part, path, list] = [0, 1, 2].map(|at| given[at].inner());
+            (Call::SecondReply { .. }, [part, path, list]) => {
                 calls::second_reply(part, path, list, out, work)
             }
-            Call::CallList { .. } => calls::call_list(given[0].inner(), out, work),
-            Call::Join { .. } => calls::join(given[0].inner(), out, work),
+            (Call::SecondReply { .. }, [part, groups, path, list]) => {
+                calls::second_reply_grouped(part, groups, path, list, out, work)
+            }
+            (Call::CallList { .. }, [bundle]) => calls::call_list(bundle, out, work),
+            (Call::Join { .. }, [bundle]) => calls::join(bundle, out, work),
+            _ => unreachable!("inputs of another call"),
         }
     }
 
-    /// Makes the call and holds it to the evaluation's outcome, which is handed back. Panics where they differ.
-    pub fn check(&self, random: &mut Random, room: Room) -> Outcome {
-        let owed = self.evaluate(room);
+    /// Makes the call in buffers of garbage. Panics where it changed an input or a guard.
+    pub fn leaves(&self, random: &mut Random, room: Room) -> Left {
         let given: Vec<Guarded> =
             self.inputs().into_iter().map(|bytes| Guarded::input(random, bytes)).collect();
         let mut out = Guarded::garbage(random, room.out);
         let mut work = Guarded::garbage(random, room.work);
-        let number = self.make(&given, out.inner_mut(), work.inner_mut());
-        let (owed_number, words) = answer(&owed);
-        let mut owed_out = bytes_of(&words);
-        owed_out.resize(room.out, 0);
-        let right = number == owed_number
-            && out.inner() == owed_out
-            && work.inner().iter().all(|byte| *byte == 0)
-            && given.iter().zip(self.inputs()).all(|(kept, bytes)| kept.inner() == bytes)
-            && given.iter().chain([&out, &work]).all(Guarded::guards_stand);
-        assert!(right, "{}", self.difference(room, number, out.inner(), &owed));
-        owed
+        let inputs: Vec<&[u8]> = given.iter().map(Guarded::inner).collect();
+        let number = self.make(&inputs, out.inner_mut(), work.inner_mut());
+        let kept = given.iter().zip(self.inputs()).all(|(kept, bytes)| kept.inner() == bytes);
+        let guarded = given.iter().chain([&out, &work]).all(Guarded::guards_stand);
+        let left = Left { number, out: out.inner().to_vec(), work: work.inner().to_vec() };
+        assert!(kept && guarded, "{}, an input or a guard changed", self.told(room, &left));
+        left
     }
 
-    fn difference(&self, room: Room, number: u32, out: &[u8], owed: &Outcome) -> String {
+    /// Makes the call and holds it to the evaluation's outcome, which is handed back. Panics where they differ.
+    pub fn check(&self, random: &mut Random, room: Room) -> Outcome {
+        let outcome = self.evaluate(room);
+        let left = self.leaves(random, room);
+        let right = left == Left::owed(&outcome, room);
+        assert!(right, "{}, the evaluation {outcome:x?}", self.told(room, &left));
+        outcome
+    }
+
+    /// The call with its inputs and what the library gave.
+    pub fn told(&self, room: Room, left: &Left) -> String {
         let inputs: Vec<String> = self.inputs().into_iter().map(hex).collect();
-        let length = out.iter().rposition(|byte| *byte != 0).map_or(0, |last| last + 1);
+        let length = left.out.iter().rposition(|byte| *byte != 0).map_or(0, |last| last + 1);
+        let grouped = matches!(self.groups_and_path(), Some((Some(_), _)));
         format!(
-            "{} with {room:?}: the library gives {number} and {}, the evaluation {owed:x?}; inputs:\n{}\nsite {:?}",
+            "{}{}, {room:?}, inputs:\n{}\nsite {:?}: the library gives {} and {}",
             self.name(),
-            hex(&out[..length]),
+            if grouped { " grouped" } else { "" },
             inputs.join("\n"),
             if let Call::Cut { site, .. } = self { Some(*site) } else { None },
+            left.number,
+            hex(&left.out[..length]),
         )
     }
 }

@@ -2,6 +2,8 @@
 pub mod beside;
 pub mod calls;
 pub mod evaluation;
+pub mod finding;
 pub mod generate;
 pub mod mistakes;
 pub mod random;
+pub mod written;

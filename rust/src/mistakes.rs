@@ -1,15 +1,34 @@
-//! Mistakes in reading a word, each as the word that it is taken for, and in counting operands, each as the rule that words are held to. The
-//! tests fail where none of their cases would find one out.
+//! Mistakes, each as what is taken for right by a program that makes it: another word, other groups, another rule. The tests fail where none
+//! of their cases would find one out.
 
-use crate::evaluation::path::{read_path, MayStand, Path, MOST_WAITING};
+use crate::evaluation::groups::{Groups, OURS};
+use crate::evaluation::path::{MayStand, MOST_WAITING};
 use crate::evaluation::words::*;
+use crate::evaluation::Outcome;
 use crate::generate::path::{outside, range};
 use std::ops::Range;
 
-pub type Mistake = (&'static str, fn(u32) -> u32);
+/// A mistake with its name.
+pub type Named<F> = (&'static str, F);
+
+/// The names of those mistakes of a table that are picked.
+pub fn names<F>(table: &[Named<F>], picked: impl Fn(&F) -> bool) -> Vec<&'static str> {
+    table.iter().filter(|(_, mistake)| picked(mistake)).map(|(name, _)| *name).collect()
+}
+
+/// The word that a word is taken for.
+pub type Taken = fn(u32) -> u32;
+/// The groups that accepted ones are taken for.
+pub type Regrouped = fn(Groups) -> Groups;
+/// The groups that accepted ones are taken for in the first trip and in the second.
+pub type ByTrip = fn(Groups) -> (Groups, Groups);
+/// The groups that refused ones are taken for.
+pub type Mended = fn(&[u8]) -> Vec<u8>;
+/// Whether refused groups are passed over: by the outcome that the call has with ours, and by its path.
+pub type PassedOver = fn(&Outcome, &[u8]) -> bool;
 
 /// Nodes that are stopped, by root and door bit.
-pub const STOPPED: [Mistake; 3] = [
+pub const STOPPED: [Named<Taken>; 3] = [
     ("stopped root taken for running", |word| running(word, 3)),
     ("stopped door taken for running", |word| running(word, 1)),
     ("stopped inner node taken for running", |word| running(word, 0)),
@@ -17,7 +36,7 @@ pub const STOPPED: [Mistake; 3] = [
 
 /// Labels outside a range. No walk is lost where more labels are held: so a program that holds no label below is found out wherever one is
 /// that misses the nearest, and one that holds the whole range wherever one is that holds an end of it.
-pub const OUTSIDE: [Mistake; 6] = [
+pub const OUTSIDE: [Named<Taken>; 6] = [
     ("outside taken for the range", |word| taken(word, range)),
     ("outside with its low end", |word| taken(word, |low, high| all_but(low + 1..high + 1))),
     ("outside with its high end", |word| taken(word, |low, high| all_but(low..high))),
@@ -27,11 +46,60 @@ pub const OUTSIDE: [Mistake; 6] = [
 ];
 
 /// Operands that wait. A program that lets more of them wait is found out by refused calls alone.
-pub const WAITING: [(&str, MayStand); 4] = [
+pub const WAITING: [Named<MayStand>; 4] = [
     ("nine may wait", |_, after| after <= MOST_WAITING + 1),
     ("sixteen may wait", |_, after| after <= 16),
     ("only seven may wait", |_, after| after < MOST_WAITING),
     ("counted ahead of the word", |before, _| before < MOST_WAITING),
+];
+
+/// Groups that are accepted. One that has a single label keeps it.
+pub const GROUPS: [Named<Regrouped>; 10] = [
+    ("our groups for those handed in", |_| OURS),
+    ("groups 0 to 3 not loaded", |[.., e, f, g, h]| [OURS[0], OURS[1], OURS[2], OURS[3], e, f, g, h]),
+    ("groups 4 to 7 not loaded", |[a, b, c, d, ..]| [a, b, c, d, OURS[4], OURS[5], OURS[6], OURS[7]]),
+    ("group 7 for group 0", |[_, b, c, d, e, f, g, h]| [h, b, c, d, e, f, g, h]),
+    ("each group for the one before", |[a, b, c, d, e, f, g, h]| [b, c, d, e, f, g, h, a]),
+    ("each group for the one behind", |[a, b, c, d, e, f, g, h]| [h, a, b, c, d, e, f, g]),
+    ("groups without their low end", |groups| with_ends(groups, |low, high| (high.min(low + 1), high))),
+    ("groups without their high end", |groups| {
+        with_ends(groups, |low, high| (low, low.max(high.max(1) - 1)))
+    }),
+    ("groups with the label below", |groups| with_ends(groups, |low, high| (low.max(1) - 1, high))),
+    ("groups with the label above", |groups| with_ends(groups, |low, high| (low, (high + 1).min(4095)))),
+];
+
+/// Groups that are accepted, in a question.
+pub const TRIPS: [Named<ByTrip>; 2] = [
+    ("our groups in the first trip", |groups| (OURS, groups)),
+    ("our groups in the second trip", |groups| (groups, OURS)),
+];
+
+/// Groups that are refused.
+pub const LOADED: [Named<Mended>; 7] = [
+    ("fewer than 32 bytes filled up", |bytes| [bytes, &bytes_of(&OURS)[bytes.len().min(32)..]].concat()),
+    ("more than 32 bytes cut off", |bytes| bytes[..bytes.len().min(32)].to_vec()),
+    ("groups of any kind", |bytes| each(bytes, |word| LABEL << 28 | bits(word, 27, 0))),
+    ("groups of sort 1", |bytes| {
+        each(bytes, |word| if is_group(word) { OURS[word as usize & 7] } else { word })
+    }),
+    ("groups of sort 2", |bytes| each(bytes, |word| taken(word, range))),
+    ("groups of any sort", |bytes| each(bytes, |word| word & !(15 << 24))),
+    ("groups with a low end above the high one", |bytes| each(bytes, turned)),
+];
+
+/// Where groups are refused.
+pub const PLACES: [Named<PassedOver>; 6] = [
+    ("groups ahead of the buffers", |_, _| false),
+    ("groups ahead of part or whole", |ours, _| refused(ours, &["buffers"])),
+    ("groups ahead of the last check of part or whole", |ours, _| {
+        ahead_of_groups(ours) && !by_last_check(ours)
+    }),
+    ("groups behind the path", |ours, _| ahead_of_groups(ours) || refused(ours, &["path"])),
+    ("groups behind all other checks", |ours, _| ours.is_err()),
+    ("groups passed over where the path names none", |ours, path| {
+        ahead_of_groups(ours) || !names_groups(path)
+    }),
 ];
 
 /// A label word that is refused.
@@ -44,10 +112,15 @@ fn running(word: u32, marks: u32) -> u32 {
     }
 }
 
+fn ends(word: u32) -> (u32, u32) {
+    (bits(word, 11, 0), bits(word, 23, 12))
+}
+
 /// A label word outside a range as the word that `other` makes of the range's ends.
 fn taken(word: u32, other: impl Fn(u32, u32) -> u32) -> u32 {
+    let (low, high) = ends(word);
     match kind(word) == LABEL && bits(word, 27, 24) == 2 {
-        true => other(bits(word, 11, 0), bits(word, 23, 12)),
+        true => other(low, high),
         false => word,
     }
 }
@@ -59,17 +132,54 @@ fn all_but(labels: Range<u32>) -> u32 {
     }
 }
 
-/// The words as they are taken, if any is taken for another.
-pub fn mistaken(words: &[u32], taken: fn(u32) -> u32) -> Option<Vec<u32>> {
-    let others: Vec<u32> = words.iter().map(|word| taken(*word)).collect();
-    (others != words).then_some(others)
+/// The groups with the ends that `other` makes of theirs.
+fn with_ends(groups: Groups, other: impl Fn(u32, u32) -> (u32, u32)) -> Groups {
+    groups.map(|word| {
+        let (low, high) = ends(word);
+        let (low, high) = other(low, high);
+        range(low, high)
+    })
 }
 
-/// The mistakes in reading a path by which it is refused, or `of` it is not what is right.
-pub fn found_out<T: PartialEq>(path: &[u32], right: &T, of: impl Fn(&Path) -> T) -> Vec<&'static str> {
-    let differs = |taken: fn(u32) -> u32| {
-        let other = mistaken(path, taken).map(|words| read_path(&bytes_of(&words)));
-        other.map_or(false, |path| path.map_or(true, |path| of(&path) != *right))
-    };
-    OUTSIDE.iter().filter(|(_, taken)| differs(*taken)).map(|(what, _)| *what).collect()
+fn is_group(word: u32) -> bool {
+    kind(word) == LABEL && bits(word, 27, 24) == 1
+}
+
+fn names_groups(path: &[u8]) -> bool {
+    words_of(path, PATH_LIMIT).map_or(false, |words| words.into_iter().any(is_group))
+}
+
+/// A range with its low end above the high one as the range between them.
+fn turned(word: u32) -> u32 {
+    let (low, high) = ends(word);
+    match low > high {
+        true => word & !0x00ff_ffff | low << 12 | high,
+        false => word,
+    }
+}
+
+/// The words of groups as they are taken; bytes that are not in fours stay.
+fn each(bytes: &[u8], taken: impl Fn(u32) -> u32) -> Vec<u8> {
+    let words = words_of(bytes, FILE_LIMIT);
+    words.map_or(bytes.to_vec(), |words| bytes_of(&words.into_iter().map(taken).collect::<Vec<_>>()))
+}
+
+pub fn refused(outcome: &Outcome, inputs: &[&str]) -> bool {
+    outcome.as_ref().err().map_or(false, |refusal| inputs.contains(&refusal.input))
+}
+
+/// Refused by a check that comes ahead of the groups'.
+pub fn ahead_of_groups(outcome: &Outcome) -> bool {
+    refused(outcome, &["buffers", "whole", "part"])
+}
+
+fn by_last_check(outcome: &Outcome) -> bool {
+    let last = |refusal: &Refusal| [("whole", 8), ("part", 7)].contains(&(refusal.input, refusal.number));
+    outcome.as_ref().err().map_or(false, last)
+}
+
+/// The words as they are taken, if any is taken for another.
+pub fn mistaken(words: &[u32], taken: Taken) -> Option<Vec<u32>> {
+    let others: Vec<u32> = words.iter().map(|word| taken(*word)).collect();
+    (others != words).then_some(others)
 }

@@ -80,7 +80,7 @@ fn number(name: &str, default: u64) -> u64 {
     }
 }
 
-pub const DEFAULT_CASES: u64 = 10_000;
+pub const DEFAULT_CASES: u64 = 15_000;
 
 /// `MOWQACHI_CASES`: random cases of all tests together.
 pub fn cases() -> u64 {

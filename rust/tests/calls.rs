@@ -1,9 +1,11 @@
-//! Random and damaged inputs for every call, by the library and by the evaluation; every check of document 01 must have refused some, and
-//! every mistake in reading stopped nodes and labels outside a range, and in counting operands, must have been found out by some.
+//! Random and damaged inputs for every call, by the library and by the evaluation; every check of the documents must have refused some, and
+//! every mistake in reading stopped nodes and labels outside a range, in counting operands and in loading groups must have been found out by
+//! some.
 
 use mowqachi_tests::evaluation::words::Refusal;
+use mowqachi_tests::finding::found_out_by_call;
 use mowqachi_tests::generate::calls::{call, room};
-use mowqachi_tests::mistakes::{OUTSIDE, STOPPED, WAITING};
+use mowqachi_tests::mistakes::{names, GROUPS, LOADED, OUTSIDE, PLACES, STOPPED, WAITING};
 use mowqachi_tests::random::{cases, seed, Naming, Random};
 use std::collections::BTreeMap;
 
@@ -35,6 +37,15 @@ const PATH: Checks = &[
     (9, "9 waiting"),
     (9, "not one left"),
     (9, "label words not n"),
+];
+const EIGHT: Checks = &[
+    (16, "fewer than 32 bytes"),
+    (16, "more than 32 bytes"),
+    (16, "no label word"),
+    (16, "low end above high"),
+    (16, "sort 1"),
+    (16, "sort 2"),
+    (16, "label sort"),
 ];
 const CALLS: Checks = &[
     (5, "no call word"),
@@ -78,12 +89,21 @@ const RESULT: Checks = &[(15, "over its limit")];
 /// Inputs, each with the lists of its checks.
 type Inputs<'a> = &'a [(&'static str, &'a [Checks])];
 
+const IN_PART: &[Checks] = &[SIZE, HEADER, NO_N, PART];
+const IN_WHOLE: &[Checks] = &[SIZE, HEADER, NO_N, PART, WHOLE];
+const IN_PATH: &[Checks] = &[SIZE, HEADER, NO_SITE, PATH];
+const IN_CALLS: &[Checks] = &[SIZE, HEADER, NO_SITE, CALLS];
+const OLD_SEARCH: Inputs = &[("whole", IN_WHOLE), ("path", IN_PATH)];
+const FIRST_REPLY: Inputs = &[("part", IN_PART), ("path", IN_PATH), ("result", &[RESULT])];
+const SECOND_REPLY: Inputs = &[("part", IN_PART), ("path", IN_PATH), ("call list", IN_CALLS)];
+
 /// The mistakes in reading these inputs.
 fn mistakes(inputs: Inputs) -> Vec<&'static str> {
-    let has = |names: &[&str]| inputs.iter().any(|(input, _)| names.contains(input));
-    let nodes = STOPPED.map(|(what, _)| what).into_iter().filter(|_| has(&["part", "whole"]));
-    let paths = OUTSIDE.map(|(what, _)| what).into_iter().chain(WAITING.map(|(what, _)| what));
-    nodes.chain(paths.filter(|_| has(&["path"]))).collect()
+    let has = |wanted: &[&str]| inputs.iter().any(|(input, _)| wanted.contains(input));
+    let (nodes, path, groups) = (has(&["part", "whole"]), has(&["path"]), has(&["groups"]));
+    let in_words = [names(&STOPPED, |_| nodes), names(&OUTSIDE, |_| path), names(&WAITING, |_| path)];
+    let in_groups = [names(&GROUPS, |_| groups), names(&LOADED, |_| groups), names(&PLACES, |_| groups)];
+    [in_words, in_groups].concat().concat()
 }
 
 fn named(refusal: Option<&Refusal>) -> String {
@@ -103,7 +123,7 @@ fn owed(inputs: Inputs) -> BTreeMap<String, u64> {
 /// Makes this share of the cases, and goes on for a while if something has not been met.
 fn run(name: &'static str, inputs: Inputs) {
     let mut seen = owed(&[&[("buffers", &[ROOM][..])], inputs].concat());
-    let wanted = cases() * 12 / 100;
+    let wanted = cases() * 8 / 100;
     let most = wanted + 50_000;
     let mut made = 0;
     while made < wanted || made < most && seen.values().any(|count| *count == 0) {
@@ -112,35 +132,46 @@ fn run(name: &'static str, inputs: Inputs) {
         let call = call(&mut random, name);
         let room = room(&mut random, &call);
         let outcome = call.check(&mut random, room);
-        let found_out = call.finds_out(room, &outcome).into_iter().map(str::to_string);
+        let found_out = found_out_by_call(&call, room, &outcome).into_iter().map(str::to_string);
         for what in found_out.chain([named(outcome.as_ref().err())]) {
             let count = seen.get_mut(&what);
             *count.unwrap_or_else(|| panic!("{name} refused by a check it has not: {outcome:?}")) += 1;
         }
         made += 1;
     }
-    seen.iter().for_each(|(what, count)| println!("{name:12} {count:7} {what}"));
-    println!("{name:12} {made:7} cases");
+    seen.iter().for_each(|(what, count)| println!("{name:20} {count:7} {what}"));
+    println!("{name:20} {made:7} cases");
     assert!(seen.values().all(|count| *count > 0), "{name}: something was never met");
+}
+
+/// The same with the groups that the call is handed.
+fn run_grouped(name: &'static str, inputs: Inputs) {
+    run(name, &[inputs, &[("groups", &[EIGHT])]].concat());
 }
 
 #[test]
 fn old_search() {
-    run(
-        "old search",
-        &[("whole", &[SIZE, HEADER, NO_N, PART, WHOLE]), ("path", &[SIZE, HEADER, NO_SITE, PATH])],
-    );
+    run("old search", OLD_SEARCH);
+}
+
+#[test]
+fn old_search_grouped() {
+    run_grouped("old search grouped", OLD_SEARCH);
 }
 
 #[test]
 fn cut() {
-    run("cut", &[("whole", &[SIZE, HEADER, NO_N, PART, WHOLE]), ("cut list", &[CUTS])]);
+    run("cut", &[("whole", IN_WHOLE), ("cut list", &[CUTS])]);
 }
 
 #[test]
 fn first_reply() {
-    let path: (_, &[Checks]) = ("path", &[SIZE, HEADER, NO_SITE, PATH]);
-    run("first reply", &[("part", &[SIZE, HEADER, NO_N, PART]), path, ("result", &[RESULT])]);
+    run("first reply", FIRST_REPLY);
+}
+
+#[test]
+fn first_reply_grouped() {
+    run_grouped("first reply grouped", FIRST_REPLY);
 }
 
 #[test]
@@ -150,9 +181,12 @@ fn call_list() {
 
 #[test]
 fn second_reply() {
-    let path: (_, &[Checks]) = ("path", &[SIZE, HEADER, NO_SITE, PATH]);
-    let calls: (_, &[Checks]) = ("call list", &[SIZE, HEADER, NO_SITE, CALLS]);
-    run("second reply", &[("part", &[SIZE, HEADER, NO_N, PART]), path, calls]);
+    run("second reply", SECOND_REPLY);
+}
+
+#[test]
+fn second_reply_grouped() {
+    run_grouped("second reply grouped", SECOND_REPLY);
 }
 
 #[test]

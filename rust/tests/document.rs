@@ -1,89 +1,20 @@
 //! Every example of document 01, stopped nodes in the same files, labels outside a range in the same paths, and as many operands waiting as
-//! may and one more, by the library and by the evaluation.
+//! may and one more, by the library and by the evaluation; calls that read a path without groups and with ours.
 
-use mowqachi_tests::beside::{answer, hex, Call};
+use mowqachi_tests::beside::Call;
 use mowqachi_tests::evaluation::words::bytes_of;
 use mowqachi_tests::evaluation::Room;
-use mowqachi_tests::random::Random;
+use mowqachi_tests::written::*;
 
-const W: &str = "10000007 20030001 30050002 20000002 30060003 20000003 30050002";
 /// W with its root stopped, and with node 3 stopped.
 const ROOT_STOPPED: &str = "10000007 20070001 30050002 20000002 30060003 20000003 30050002";
 const STOPPED: &str = "10000007 20030001 30050002 20000002 30060003 20040003 30050002";
-const P: &str = "40300007 50005005 50006006 50005005 60000001 60000003 60000001";
 /// P with 5 said as all labels but 6, and 6 as all but 5: on W's labels the same.
 const P_OUTSIDE: &str = "40300007 52006006 52005005 52006006 60000001 60000003 60000001";
 /// 5 then 6 then 5.
 const Q: &str = "40300006 50005005 50006006 60000001 50005005 60000001";
-const ONE_LABEL: &str = "40100002 50005005";
 /// 5 then 6.
 const TWO_LABELS: &str = "40200004 50005005 50006006 60000001";
-const EMPTY_WORD: &str = "40000002 60000000";
-
-fn words(text: &str) -> Vec<u32> {
-    text.split_whitespace().map(|word| u32::from_str_radix(word, 16).expect(word)).collect()
-}
-
-fn bytes(text: &str) -> Vec<u8> {
-    bytes_of(&words(text))
-}
-
-/// The library's answer, held to the evaluation's.
-fn made(call: &Call) -> (u32, Vec<u32>) {
-    made_in(call, call.least_room())
-}
-
-fn made_in(call: &Call, room: Room) -> (u32, Vec<u32>) {
-    answer(&call.check(&mut Random::new(1, "document", 0), room))
-}
-
-fn gives(call: Call, text: &str) {
-    assert_eq!(made(&call), (0, words(text)), "{call:x?}");
-}
-
-fn refuses(call: Call, number: u32) {
-    assert_eq!(made(&call).0, number, "{call:x?}");
-}
-
-fn old_search(whole: &str, path: &str) -> Call {
-    Call::OldSearch { whole: bytes(whole), path: bytes(path) }
-}
-
-fn cut(whole: &str, cuts: &[u8], site: u32) -> Call {
-    Call::Cut { whole: bytes(whole), cuts: cuts.to_vec(), site }
-}
-
-fn first_reply(part: &str, path: &str) -> Call {
-    Call::FirstReply { part: bytes(part), path: bytes(path) }
-}
-
-fn call_list(bundle: &str) -> Call {
-    Call::CallList { bundle: bytes(bundle) }
-}
-
-fn second_reply(part: &str, path: &str, calls: &str) -> Call {
-    Call::SecondReply { part: bytes(part), path: bytes(path), calls: bytes(calls) }
-}
-
-fn join(bundle: &str) -> Call {
-    Call::Join { bundle: bytes(bundle) }
-}
-
-/// Every call with its own inputs in order; `part` stands for the whole too.
-fn over_a_part(part: &str) -> Vec<Call> {
-    vec![
-        old_search(part, ONE_LABEL),
-        cut(part, &[0], 0),
-        first_reply(part, ONE_LABEL),
-        second_reply(part, ONE_LABEL, "b0100001"),
-    ]
-}
-
-/// Every call that reads a path, with this one, and a call list of its n.
-fn over_a_path(path: &str) -> Vec<Call> {
-    let calls = format!("b0{}00001", &path[2..3]);
-    vec![old_search(W, path), first_reply("10000001", path), second_reply("10000001", path, &calls)]
-}
 
 fn all_calls() -> Vec<Call> {
     let mut calls = over_a_part("10000002 20030001");
@@ -91,43 +22,9 @@ fn all_calls() -> Vec<Call> {
     calls
 }
 
-/// The files of a question over the cut 0, 1, 0, by site.
-struct Files {
-    whole: &'static str,
-    parts: [&'static str; 2],
-    firsts: [&'static str; 2],
-    calls: &'static str,
-    seconds: [&'static str; 2],
-    list: &'static str,
-}
-
-fn made_one_by_one(files: &Files, path: &str) {
-    for site in 0..2 {
-        gives(cut(files.whole, &[0, 1, 0], site as u32), files.parts[site]);
-        gives(first_reply(files.parts[site], path), files.firsts[site]);
-        gives(second_reply(files.parts[site], path, files.calls), files.seconds[site]);
-    }
-    for (first, second) in [(0, 1), (1, 0)] {
-        gives(call_list(&format!("{} {}", files.firsts[first], files.firsts[second])), files.calls);
-        gives(join(&format!("{} {}", files.seconds[first], files.seconds[second])), files.list);
-    }
-    gives(old_search(files.whole, path), files.list);
-}
-
 #[test]
 fn end_to_end() {
-    let files = Files {
-        whole: W,
-        parts: ["10000005 20030001 30050002 20010003 30050002", "11000003 20010002 30060003"],
-        firsts: [
-            "7030000b 80010001 90000000 a0000021 90000002 a0000023 80000003 90000000 a0000021 90000002 a0000023",
-            "71300006 80000002 90000001 a0000032 90000003 a0000032",
-        ],
-        calls: "b0300005 c0000010 c0000021 c0000023 c0000032",
-        seconds: ["d0300001", "d1300002 e0000002"],
-        list: "f0000002 e0000002",
-    };
-    [P, P_OUTSIDE].into_iter().for_each(|path| made_one_by_one(&files, path));
+    [P, P_OUTSIDE].into_iter().for_each(|path| made_one_by_one(&FILES, None, path));
 }
 
 #[test]
@@ -143,7 +40,7 @@ fn end_to_end_with_a_stopped_door() {
         seconds: ["d0300001", "d1300002 e0000002"],
         list: "f0000002 e0000002",
     };
-    [P, P_OUTSIDE].into_iter().for_each(|path| made_one_by_one(&files, path));
+    [P, P_OUTSIDE].into_iter().for_each(|path| made_one_by_one(&files, None, path));
 }
 
 #[test]
@@ -168,15 +65,20 @@ fn row_2_sizes() {
         let whole = bytes("10000002 20030001");
         let path = bytes(ONE_LABEL);
         let calls = [
-            Call::OldSearch { whole: short.clone(), path: path.clone() },
-            Call::OldSearch { whole: whole.clone(), path: short.clone() },
+            Call::OldSearch { whole: short.clone(), groups: None, path: path.clone() },
+            Call::OldSearch { whole: whole.clone(), groups: None, path: short.clone() },
             Call::Cut { whole: short.clone(), cuts: vec![0], site: 0 },
-            Call::FirstReply { part: short.clone(), path: path.clone() },
-            Call::FirstReply { part: whole.clone(), path: short.clone() },
+            Call::FirstReply { part: short.clone(), groups: None, path: path.clone() },
+            Call::FirstReply { part: whole.clone(), groups: None, path: short.clone() },
             Call::CallList { bundle: short.clone() },
-            Call::SecondReply { part: short.clone(), path: path.clone(), calls: short.clone() },
-            Call::SecondReply { part: whole.clone(), path: short.clone(), calls: short.clone() },
-            Call::SecondReply { part: whole, path, calls: short.clone() },
+            Call::SecondReply { part: short.clone(), groups: None, path: path.clone(), calls: short.clone() },
+            Call::SecondReply {
+                part: whole.clone(),
+                groups: None,
+                path: short.clone(),
+                calls: short.clone(),
+            },
+            Call::SecondReply { part: whole, groups: None, path, calls: short.clone() },
             Call::Join { bundle: short },
         ];
         calls.into_iter().for_each(|call| refuses(call, 2));
@@ -225,22 +127,6 @@ fn rows_10_to_14() {
     refuses(second_reply("10000002 20000001", EMPTY_WORD, "b0000002 c0000010"), 14);
 }
 
-/// Two doors without links between them, each with label 0 to `targets` nodes outside.
-fn dear_part(targets: u32) -> Vec<u8> {
-    let mut part = vec![0x1000_0000 | (3 + 2 * targets)];
-    for door in 0..2 {
-        part.push(0x2001_0000 | door);
-        part.extend((0..targets).map(|target| 0x3000_0000 | (2 + target)));
-    }
-    bytes_of(&part)
-}
-
-/// A path of these words behind a header.
-fn path(n: u32, words: &[u32]) -> Vec<u8> {
-    let header = 0x4000_0000 | n << 20 | (words.len() as u32 + 1);
-    bytes_of(&[&[header], words].concat())
-}
-
 const FULL: u32 = 0x50ff_f000;
 /// Outside 1 to 4095.
 const ONLY_0: u32 = 0x52ff_f001;
@@ -260,7 +146,8 @@ fn or_of(label: u32, count: usize) -> Vec<u32> {
 fn row_15_sizes() {
     for label in [FULL, ONLY_0] {
         let star = [or_of(label, 15), vec![STAR]].concat();
-        let reply = |targets| Call::FirstReply { part: dear_part(targets), path: path(15, &star) };
+        let reply =
+            |targets| Call::FirstReply { part: dear_part(targets), groups: None, path: path(15, &star) };
         refuses(reply(9), 15);
         let (number, words) = made(&reply(8));
         assert_eq!((number, words.len(), words[0]), (0, 3875, 0x70f0_0000 | 3875));
@@ -277,8 +164,11 @@ fn wide_part(targets: u32, stopped: u32) -> Vec<u8> {
 
 #[test]
 fn first_reply_at_its_limit() {
-    let reply =
-        |targets, stopped| Call::FirstReply { part: wide_part(targets, stopped), path: path(1, &[FULL]) };
+    let reply = |targets, stopped| Call::FirstReply {
+        part: wide_part(targets, stopped),
+        groups: None,
+        path: path(1, &[FULL]),
+    };
     for stopped in [0, 1] {
         let (number, words) = made(&reply(4093 - stopped, stopped));
         assert_eq!((number, words.len()), (0, 4096));
@@ -310,7 +200,7 @@ fn call_list_at_its_limit() {
 #[test]
 fn path_edges() {
     let root = "10000002 20030001";
-    let search = |path| Call::OldSearch { whole: bytes(root), path };
+    let search = |path| Call::OldSearch { whole: bytes(root), groups: None, path };
     let stars = |count| path(0, &[vec![EMPTY], vec![STAR; count]].concat());
     gives(search(stars(62)), "f0000002 e0000001");
     refuses(search(stars(63)), 2);
@@ -327,13 +217,6 @@ fn path_edges() {
         gives(search(path(n, &waiting(7, last))), list);
         refuses(search(path(n, &waiting(8, last))), 9);
     }
-}
-
-/// The number that each call that reads paths gives for one of these words, with the n that they have.
-fn path_gets(words: &[u32], number: u32) {
-    let n = words.iter().filter(|word| **word >> 28 == 5).count();
-    let path = hex(&path(n as u32, words));
-    over_a_path(&path).iter().for_each(|call| assert_eq!(made(call).0, number, "{path}"));
 }
 
 #[test]
@@ -369,21 +252,7 @@ fn fifteen_labels_of_which_eight_wait() {
     }
     let labels = [0x5000_5005, 0x5000_6006].repeat(8);
     let words = [&labels[..8], &[THEN; 7], &labels[8..15], &[THEN; 7]].concat();
-    lists(W, &hex(&path(15, &words)), "f0000002 e0000002");
-}
-
-/// Whether a path of this one label word leads over a link with this label, by each call that reads paths.
-fn crosses(word: u32, label: u32, held: bool) {
-    let link = 0x3000_0002 | label << 16;
-    let whole = bytes_of(&[0x1000_0004, 0x2003_0001, link, 0x2000_0002]);
-    let part = bytes_of(&[0x1000_0003, 0x2003_0001, link]);
-    let (path, calls) = (path(1, &[word]), bytes("b0100002 c0000010"));
-    let given = |over, none| if held { over } else { none };
-    let list = given("f0000002 e0000002", "f0000001");
-    gives(Call::OldSearch { whole: whole.clone(), path: path.clone() }, list);
-    let reply = given("70100004 80010001 90000000 a0000021", "70100002 80010001");
-    gives(Call::FirstReply { part, path: path.clone() }, reply);
-    gives(Call::SecondReply { part: whole, path, calls }, given("d0100002 e0000002", "d0100001"));
+    lists(W, None, &path_of(&words), "f0000002 e0000002");
 }
 
 #[test]
@@ -397,8 +266,8 @@ fn label_words_at_their_ends() {
         let group = (at < 8).then_some(0x5100_0000 | at as u32);
         for label in [low.wrapping_sub(1), low, high, high + 1].into_iter().filter(|label| *label < 4096) {
             let inside = low <= label && label <= high;
-            group.into_iter().chain([range]).for_each(|word| crosses(word, label, inside));
-            crosses(outside, label, !inside);
+            group.into_iter().chain([range]).for_each(|word| crosses(None, word, label, inside));
+            crosses(None, outside, label, !inside);
         }
     }
 }
@@ -416,41 +285,14 @@ fn sorts_of_labels() {
     }
 }
 
-/// Runs a question over a cut of a whole, replies in order of site: the list and the first replies.
-fn question(whole: &str, cuts: &[u8], sites: u32, path: &str) -> (Vec<u32>, Vec<Vec<u32>>) {
-    let accepted = |call: Call| {
-        let (number, words) = made(&call);
-        assert_eq!(number, 0, "{call:x?}");
-        words
-    };
-    let parts: Vec<Vec<u8>> = (0..sites).map(|site| bytes_of(&accepted(cut(whole, cuts, site)))).collect();
-    let reply = |part: &Vec<u8>| accepted(Call::FirstReply { part: part.clone(), path: bytes(path) });
-    let firsts: Vec<Vec<u32>> = parts.iter().map(reply).collect();
-    let calls = bytes_of(&accepted(Call::CallList { bundle: bytes_of(&firsts.concat()) }));
-    let answer = |part: &Vec<u8>| {
-        let (part, path, calls) = (part.clone(), bytes(path), calls.clone());
-        accepted(Call::SecondReply { part, path, calls })
-    };
-    let seconds: Vec<Vec<u32>> = parts.iter().map(answer).collect();
-    (accepted(Call::Join { bundle: bytes_of(&seconds.concat()) }), firsts)
-}
-
-/// The old search and the question over each of these cuts give this list of a plant of three nodes.
-fn lists(whole: &str, path: &str, list: &str) {
-    gives(old_search(whole, path), list);
-    for cuts in [[0, 0, 0], [0, 1, 0], [0, 1, 2], [1, 0, 0]] {
-        assert_eq!(question(whole, &cuts, 3, path).0, words(list), "{whole} {cuts:?} {path}");
-    }
-}
-
 #[test]
 fn visited_nodes_have_states() {
-    lists(W, Q, "f0000002 e0000002");
+    lists(W, None, Q, "f0000002 e0000002");
 }
 
 #[test]
 fn walks_resume_at_doors() {
-    let (list, firsts) = question(W, &[0, 1, 0], 2, Q);
+    let (list, firsts) = question(W, &[0, 1, 0], 2, None, Q);
     assert_eq!(list, words("f0000002 e0000002"));
     assert_eq!(firsts[1], words("71300004 80000002 90000001 a0000032"));
 }
@@ -460,13 +302,13 @@ fn walks_go_on_through_doors() {
     let whole = "10000006 20030001 30050003 20000002 20000003 30060002";
     let part = "10000005 20030001 30050003 20010003 30060002";
     gives(first_reply(part, TWO_LABELS), "70200007 80010001 90000000 a0000022 80000003 90000001 a0000022");
-    assert_eq!(question(whole, &[0, 1, 0], 2, TWO_LABELS).0, words("f0000002 e0000002"));
+    assert_eq!(question(whole, &[0, 1, 0], 2, None, TWO_LABELS).0, words("f0000002 e0000002"));
 }
 
 #[test]
 fn a_star_needs_no_turn() {
     let whole = "10000006 20030001 30050002 20000002 30060003 20000003";
-    lists(whole, P, "f0000002 e0000002");
+    lists(whole, None, P, "f0000002 e0000002");
 }
 
 #[test]
@@ -485,17 +327,17 @@ fn labels_outside_a_range() {
         ("52fff007", all),
         ("52fff000", root),
     ] {
-        lists(W, &format!("40100003 {word} 60000003"), list);
+        lists(W, None, &format!("40100003 {word} 60000003"), list);
     }
     // all but 6, by the two ranges that say the same
-    lists(W, "40200005 50005000 50fff007 60000002 60000003", two);
+    lists(W, None, "40200005 50005000 50fff007 60000002 60000003", two);
 }
 
 #[test]
 fn a_stopped_node_is_neither_passed_nor_listed() {
     for (path, list) in [(Q, "f0000002 e0000002"), (TWO_LABELS, "f0000002 e0000003")] {
-        lists(W, path, list);
-        lists(STOPPED, path, "f0000001");
+        lists(W, None, path, list);
+        lists(STOPPED, None, path, "f0000001");
     }
 }
 
@@ -503,7 +345,7 @@ fn a_stopped_node_is_neither_passed_nor_listed() {
 fn a_stopped_root_lists_nothing() {
     gives(old_search("10000002 20070001", EMPTY_WORD), "f0000001");
     for path in [P, Q, EMPTY_WORD] {
-        lists(ROOT_STOPPED, path, "f0000001");
+        lists(ROOT_STOPPED, None, path, "f0000001");
     }
 }
 

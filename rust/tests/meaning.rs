@@ -1,11 +1,14 @@
 //! The evaluation's own meaning of label words and expressions, by methods that must agree.
 
+use mowqachi_tests::evaluation::groups::OURS;
 use mowqachi_tests::evaluation::meaning::{listed_by_flow, listed_by_relation};
 use mowqachi_tests::evaluation::path::{read_path, Expression, Path};
 use mowqachi_tests::evaluation::states::States;
 use mowqachi_tests::evaluation::words::bytes_of;
+use mowqachi_tests::finding::found_out_by_path;
+use mowqachi_tests::generate::groups::{grouped, groups, naming};
 use mowqachi_tests::generate::path::{alphabet, label_word, or_of, path};
-use mowqachi_tests::mistakes::{found_out, OUTSIDE};
+use mowqachi_tests::mistakes::{GROUPS, OUTSIDE};
 use mowqachi_tests::random::{cases, seed, Random};
 use std::collections::BTreeSet;
 
@@ -56,7 +59,7 @@ fn derivative(expression: &Expression, holds: &dyn Fn(usize) -> bool) -> Derived
 /// Whether the labels, in order, are a word of the path's expression.
 fn word_by_derivatives(path: &Path, word: &[u32]) -> bool {
     let step = |expression: Expression, label: &u32| {
-        derivative(&expression, &|position| path.label(position).holds(*label))
+        derivative(&expression, &|position| path.holds(position, *label))
     };
     let left = word.iter().try_fold(path.expression.clone(), step);
     left.map_or(false, |rest| has_empty_word(&rest))
@@ -77,36 +80,42 @@ fn chain(word: &[u32]) -> Vec<Vec<(u32, usize)>> {
     word.iter().enumerate().map(link).chain([vec![]]).collect()
 }
 
-/// The labels of a range, and those outside it, by the word's digits; document.rs has the groups.
+/// The labels of a range, those outside it and those of a group, by the digits of the word or of the group's own.
 #[test]
 fn labels() {
-    for case in 0..cases() / 20 {
+    for case in 0..cases() * 3 / 100 {
         let mut random = Random::new(seed(), "labels", case);
         let alphabet = alphabet(&mut random);
-        let word = label_word(&mut random, &alphabet);
-        let digits = format!("{word:08x}");
+        let groups = groups(&mut random, &alphabet);
+        let words = or_of(label_word(&mut random, &alphabet), 1, false);
+        let words = naming(&mut random, words);
+        let path = read_path(&bytes_of(&words), &groups).expect("a path");
+        let mut digits = format!("{:08x}", words[1]);
+        if let Some(group) = digits.strip_prefix("5100000") {
+            digits = format!("{:08x}", groups[group.parse::<usize>().expect("a digit")]);
+        }
         let [low, high] = [5..8, 2..5].map(|at| u32::from_str_radix(&digits[at], 16).expect("digits"));
         let owed: Vec<u32> = match &digits[..2] {
             "50" => (low..=high).collect(),
-            "52" => (0..low).chain(high + 1..4096).collect(),
-            _ => continue,
+            _ => (0..low).chain(high + 1..4096).collect(),
         };
-        let path = read_path(&bytes_of(&or_of(word, 1, false))).expect("a path");
-        let held: Vec<u32> = (0..4096).filter(|label| path.label(1).holds(*label)).collect();
-        assert_eq!(held, owed, "{word:x}");
+        let held: Vec<u32> = (0..4096).filter(|label| path.holds(1, *label)).collect();
+        assert_eq!(held, owed, "{words:x?} {groups:x?}");
     }
 }
 
-/// Goes on for a while if a mistake in reading labels has not been found out.
+/// Goes on for a while if a mistake in reading labels or groups has not been found out.
 #[test]
 fn words() {
-    let (mut members, mut found, mut case, wanted) = (0, BTreeSet::new(), 0, cases() * 7 / 100);
-    while case < wanted || case < wanted + 10_000 && found.len() < OUTSIDE.len() {
+    let (mut members, mut found, mut case, wanted) = (0, BTreeSet::new(), 0, cases() * 5 / 100);
+    let mistakes = OUTSIDE.len() + GROUPS.len();
+    while case < wanted || case < wanted + 10_000 && found.len() < mistakes {
         let mut random = Random::new(seed(), "words", case);
         let alphabet = alphabet(&mut random);
         let operands = random.between(1, 6);
         let words = path(&mut random, &alphabet, operands);
-        let path = read_path(&bytes_of(&words)).expect("a path");
+        let (groups, words) = grouped(&mut random, &alphabet, words, case % 2 == 0);
+        let path = read_path(&bytes_of(&words), &groups.unwrap_or(OURS)).expect("a path");
         let states = States::of(&path);
         for length in 0..6 {
             let word: Vec<u32> = (0..length).map(|_| random.pick(&alphabet)).collect();
@@ -115,21 +124,23 @@ fn words() {
             assert_eq!(word_by_states(&path, &states, &word), member, "{path:?} {word:?}");
             let listed = listed_by_relation(&path, &chain(&word), 0);
             assert_eq!(listed.contains(&length), member, "{path:?} {word:?}");
-            found.extend(found_out(&words, &member, |path| word_by_derivatives(path, &word)));
+            found.extend(found_out_by_path(&words, groups, &member, |path| word_by_derivatives(path, &word)));
         }
         case += 1;
     }
-    assert!(members > cases() / 20, "too few words belong: {members}");
-    assert_eq!(found.len(), OUTSIDE.len(), "only these mistakes are found out: {found:?}");
+    assert!(members > cases() / 30, "too few words belong: {members}");
+    assert_eq!(found.len(), mistakes, "only these mistakes are found out: {found:?}");
 }
 
 #[test]
 fn lists() {
-    for case in 0..cases() * 3 / 100 {
+    for case in 0..cases() * 2 / 100 {
         let mut random = Random::new(seed(), "lists", case);
         let alphabet = alphabet(&mut random);
         let operands = random.between(1, 15);
-        let path = read_path(&bytes_of(&path(&mut random, &alphabet, operands))).expect("a path");
+        let words = path(&mut random, &alphabet, operands);
+        let (groups, words) = grouped(&mut random, &alphabet, words, case % 2 == 0);
+        let path = read_path(&bytes_of(&words), &groups.unwrap_or(OURS)).expect("a path");
         let count = random.between(1, 20);
         let link = |random: &mut Random| (random.pick(&alphabet), random.below(count));
         let mut node = || (0..random.below(4)).map(|_| link(&mut random)).collect();

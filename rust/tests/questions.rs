@@ -1,19 +1,21 @@
-//! Demand 3: whole questions over random plants, true cuts, paths and orders, run by the library and held to the evaluation.
+//! Demand 3: whole questions over random plants, true cuts, paths, groups and orders, run by the library and held to the evaluation.
 
 use mowqachi_tests::beside::Call;
+use mowqachi_tests::evaluation::groups::{Groups, OURS};
 use mowqachi_tests::evaluation::part::Part;
 use mowqachi_tests::evaluation::path::{read_path, Path};
 use mowqachi_tests::evaluation::plant::Plant;
-use mowqachi_tests::evaluation::replies::Pair;
+use mowqachi_tests::evaluation::replies::{second_reply_words, Pair};
 use mowqachi_tests::evaluation::states::States;
 use mowqachi_tests::evaluation::words::*;
+use mowqachi_tests::finding::found_out_by_path;
 use mowqachi_tests::generate::plant::node;
 use mowqachi_tests::generate::question::{question, Question};
-use mowqachi_tests::mistakes::{found_out, OUTSIDE};
+use mowqachi_tests::mistakes::{names, ByTrip, GROUPS, OUTSIDE, TRIPS};
 use mowqachi_tests::random::{cases, seed, Naming, Random};
 use std::collections::{BTreeMap, BTreeSet};
 
-/// How a question may end, and two sorts of plant that must have been asked about.
+/// How a question may end, and what must have been asked about.
 const ENDS: [&str; 8] = [
     "joined",
     "joined, further doors",
@@ -32,6 +34,16 @@ const IGNORED: [[&str; 2]; 3] = [
     ["stopped door called and listed", "stopped door called and left"],
     ["stopped node inside a part listed", "stopped node inside a part left"],
 ];
+
+/// The question's path as it is read by these groups.
+fn path_by(question: &Question, groups: &Groups) -> Path {
+    read_path(&bytes_of(&question.path), groups).expect("paths are made right")
+}
+
+/// The groups and the path that the question's calls are handed.
+fn handed(question: &Question) -> (Option<Vec<u8>>, Vec<u8>) {
+    (question.groups.map(|groups| bytes_of(&groups)), bytes_of(&question.path))
+}
 
 /// The library's number and words, held to the evaluation's.
 fn made(random: &mut Random, call: Call) -> Result<Vec<u32>, Refusal> {
@@ -85,7 +97,8 @@ fn crossings(question: &Question, path: &Path) -> BTreeSet<Pair> {
 fn first_trip(random: &mut Random, question: &Question, path: &Path) -> Result<Vec<Vec<u32>>, &'static str> {
     let mut replies = vec![];
     for part in &question.parts {
-        let call = Call::FirstReply { part: bytes_of(&part.words()), path: bytes_of(&question.path) };
+        let (groups, path_bytes) = handed(question);
+        let call = Call::FirstReply { part: bytes_of(&part.words()), groups, path: path_bytes };
         match made(random, call) {
             Ok(reply) => {
                 check_traffic(part, path.n(), &reply);
@@ -129,8 +142,9 @@ fn call_list(
 
 fn second_trip(random: &mut Random, question: &Question, calls: &[u32]) -> Vec<Vec<u32>> {
     let mut reply = |part: &Part| {
-        let [part, path, calls] = [&part.words()[..], &question.path, calls].map(bytes_of);
-        made(random, Call::SecondReply { part, path, calls }).expect("second replies have no limit to pass")
+        let ((groups, path), [part, calls]) = (handed(question), [&part.words()[..], calls].map(bytes_of));
+        let call = Call::SecondReply { part, groups, path, calls };
+        made(random, call).expect("second replies have no limit to pass")
     };
     question.parts.iter().map(&mut reply).collect()
 }
@@ -148,8 +162,8 @@ fn check_list(random: &mut Random, question: &Question, path: &Path, list: &[u32
     answers.sort();
     assert_eq!(answers, list[1..], "the second replies hold the listed nodes, each once");
     if let Some(whole) = one_file(question) {
-        let (whole, path) = (bytes_of(&whole), bytes_of(&question.path));
-        let old = made(random, Call::OldSearch { whole, path });
+        let (whole, (groups, path)) = (bytes_of(&whole), handed(question));
+        let old = made(random, Call::OldSearch { whole, groups, path });
         assert_eq!(old.expect("the plant fits one file"), list, "the old search's list");
     }
 }
@@ -177,13 +191,31 @@ fn ignored(plant: &Plant, path: &Path, calls: &[u32], list: &[u32]) -> Vec<&'sta
     found
 }
 
+/// The answers of sites that read the path by these groups in the first trip and in the second.
+fn answers_by(question: &Question, first: &Groups, second: &Groups) -> BTreeSet<u32> {
+    let calls: Vec<Pair> = crossings(question, &path_by(question, first)).into_iter().collect();
+    let path = path_by(question, second);
+    let reply = |part: &Part| second_reply_words(part, &path, &calls)[1..].to_vec();
+    question.parts.iter().flat_map(reply).collect()
+}
+
+/// The mistakes of `TRIPS` by which the joined list would be another.
+fn trips(question: &Question, list: &[u32]) -> Vec<&'static str> {
+    let owed: BTreeSet<u32> = list[1..].iter().copied().collect();
+    let differs = |groups: Groups, by_trip: ByTrip| {
+        let (first, second) = by_trip(groups);
+        answers_by(question, &first, &second) != owed
+    };
+    names(&TRIPS, |by_trip| question.groups.map_or(false, |groups| differs(groups, *by_trip)))
+}
+
 /// Runs one question to its end, and notes what of `IGNORED` it holds and which mistakes its list finds out.
 fn ask(
     random: &mut Random,
     question: &Question,
     noted: &mut Vec<&'static str>,
 ) -> Result<&'static str, &'static str> {
-    let path = read_path(&bytes_of(&question.path)).expect("paths are made right");
+    let path = path_by(question, &question.groups.unwrap_or(OURS));
     let firsts = first_trip(random, question, &path)?;
     let calls = call_list(random, question, &path, &firsts)?;
     let seconds = second_trip(random, question, &calls);
@@ -197,7 +229,9 @@ fn ask(
     let list = joined.expect("honest replies join");
     check_list(random, question, &path, &list, &seconds);
     noted.extend(ignored(&question.plant, &path, &calls, &list));
-    noted.extend(found_out(&question.path, &list, |path| question.plant.search(path)));
+    let by_list = |path: &Path| question.plant.search(path);
+    noted.extend(found_out_by_path(&question.path, question.groups, &list, by_list));
+    noted.extend(trips(question, &list));
     let crossed: BTreeSet<u32> = question.parts.iter().flat_map(Part::outside_targets).collect();
     let further = |part: &Part| part.doors().any(|door| !door.root && !crossed.contains(&door.number));
     Ok(match () {
@@ -210,10 +244,10 @@ fn ask(
 
 /// Makes this share of the cases, and goes on for a while if something has not been met.
 fn run(stream: &'static str) {
-    let mistakes = OUTSIDE.iter().map(|(what, _)| what);
+    let mistakes = [names(&OUTSIDE, |_| true), names(&GROUPS, |_| true), names(&TRIPS, |_| true)].concat();
     let mut seen: BTreeMap<&str, u64> =
-        ENDS.iter().chain(IGNORED.iter().flatten()).chain(mistakes).map(|what| (*what, 0)).collect();
-    let wanted = cases() * 9 / 100;
+        ENDS.iter().chain(IGNORED.iter().flatten()).chain(&mistakes).map(|what| (*what, 0)).collect();
+    let wanted = cases() * 6 / 100;
     let mut made = 0;
     while made < wanted || made < wanted + 20_000 && seen.values().any(|count| *count == 0) {
         let _naming = Naming(stream, made);

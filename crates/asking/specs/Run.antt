@@ -6,6 +6,7 @@ use lib.ListN.{take, drop}
 use Rattle.sets.specs.States.{statesOf}
 use Rattle.bundles.specs.declared.bundle.Trip.{Trip}
 use Rattle.bundles.specs.declared.bundle.Trip.the-variants.{First, Second}
+use Rattle.demands.specs.Grouped.{ours}
 use Rattle.demands.specs.Question.{Buffers, Room, Call, Asking, stopped, going, first, calls, second, join, fileIn, call, each, ask, _>>=_}
 use Rattle.trips.specs.Calls.{siteCall, hubCall}
 
@@ -79,4 +80,4 @@ rooms n m = record { first = λ part. buffers slot m; calls = buffers n m; secon
 
 -- the final list of the question, whose sites answer in one order both times
 unfoldable pub answer : Room → List ℕ → List (List ℕ) → Asking (List ℕ)
-answer room path parts = ask room path parts parts >>= (λ a. going (a .final))
+answer room path parts = ask ours room path parts parts >>= (λ a. going (a .final))

@@ -1,5 +1,5 @@
 -- In the whole question no call refuses, but with 15: what a site or the hub writes, the next reader accepts. Assumes nothing.
-use mathlib.Core.Path.{_≡_, sym, _∙_, subst}
+use mathlib.Core.Path.{_≡_, sym, ap, _∙_, subst}
 use mathlib.Core.Logic.{_↔_}
 use mathlib.Core.List.{List, [], _∷_, map, flatten, Memᴰ·map, List·Memᴰ·eq-of-singleton}
 use Prim.Native.Nat.{ℕ, _≤_, _<_}
@@ -13,6 +13,7 @@ use Rattle.files.specs.Field.{labelsOf, pairNode, pairState, file, answerWord}
 use Rattle.files.specs.Outcome.{Outcome, refused, accepted, outcome}
 use Rattle.files.specs.Part.{nodes}
 use Rattle.files.specs.Part as part
+use Rattle.files.specs.Path.{pathCheck}
 use Rattle.files.specs.Reply.{replyCheck, roots, rows}
 use Rattle.files.specs.Answers.{answersOf, answersCheck}
 use Rattle.files.proofs.Checks.{outcome-gives, outcome-over}
@@ -22,18 +23,19 @@ use Rattle.expressions.specs.Expr.{Expr, count}
 use Rattle.expressions.specs.Labels.{exprOf}
 use Rattle.expressions.proofs.Paths.{path-small}
 use Rattle.first_replies.specs.FirstReply.{reported, firstReply}
-use Rattle.site_first.specs.First.{firstReplyCall}
-use Rattle.site_second.specs.Second.{calledIn, secondReply, secondReplyCall}
+use Rattle.site_second.specs.Second.{calledIn, secondReply}
 use Rattle.first_replies.proofs.FirstReplies as first
-use Rattle.site_first.proofs.FirstCalls.{first-outcome}
+use Rattle.site_second.proofs.SecondCalls.{against-checked}
 use Rattle.site_second.proofs.SecondReplies as second
 use Rattle.hub_calls.specs.CallList.{called, callList, callListCall}
 use Rattle.hub_join.specs.Join.{joined, joinCall}
 use Rattle.hub_calls.proofs.CallLists as calls
 use Rattle.hub_join.proofs.Joining as join
 use Rattle.demands.specs.Plant.{Words, body}
+use Rattle.demands.specs.Grouped.{asks, firstCall, secondCall}
 use Rattle.demands.specs.Demand.{Asked, Enough}
 use Rattle.demands.proofs.Cross.{Called, called-door, called-reach}
+use Rattle.demands.proofs.Grouping.{asks-checked, asks-head, first-asked, second-asked}
 use Rattle.demands.proofs.Host.{Sized, file-sized, made-sized}
 use Rattle.demands.proofs.Bundles.{cut-perm, firsts-made, first-root, first-bundle, first-rows-iff, seconds-made, second-answers, second-bundle}
 
@@ -50,31 +52,34 @@ owes : (o : Outcome) (limit : ℕ) (result : List ℕ) → o ≡ outcome 0 limit
 owes o limit result e = record { gives = λ h. e ∙ outcome-gives limit result h; over = λ h. e ∙ outcome-over limit result h }
 
 module _ (q : Asked) where
+  -- the path that is asked, with the groups loaded
+  abbrev pub path : List ℕ
+  path = asks (q .groups) (q .path)
+
+  pub path-read : pathCheck path ≡ 0
+  path-read = asks-checked (q .groups) (q .path) (q .groups-accepted) (q .path-accepted .2)
+
   abbrev pub firsts : List (List ℕ)
-  firsts = map (λ f. firstReply f (q .path)) (q .parts)
+  firsts = map (λ f. firstReply f path) (q .parts)
 
   abbrev pub seconds : List ℕ → List (List ℕ)
-  seconds calls = map (λ f. secondReply f (q .path) calls) (q .parts)
-
-  abbrev path : List ℕ
-  path = q .path
+  seconds calls = map (λ f. secondReply f path calls) (q .parts)
 
   abbrev n : ℕ
   n = labelsOf (getD path 0 0)
 
   abbrev pub e : Expr
-  e = exprOf (drop 1 (q .path))
+  e = exprOf (drop 1 path)
 
   pub small : count e ≤ 15
-  small = path-small (q .path) (q .path-accepted .2)
+  small = path-small path path-read
 
   -- Demand 3, the first calls
   pub first-call : (out work : ℕ) → Enough 4096 out work → (f : List ℕ) → Mem f (q .parts)
-      → Owes (firstReplyCall out work (bytesOf f) (bytesOf (q .path))) 4096 (firstReply f (q .path))
+      → Owes (firstCall (q .groups) out work (bytesOf f) (bytesOf (q .path))) 4096 (firstReply f path)
   first-call out work r f k =
-      let c = q .cut .part f k in
-      owes (firstReplyCall out work (bytesOf f) (bytesOf path)) 4096 (firstReply f path)
-      (first-outcome out work f path (r .0) (r .1) (c .0) (c .1) (c .2) (q .path-accepted .0) (q .path-accepted .1) (q .path-accepted .2))
+      owes (firstCall (q .groups) out work (bytesOf f) (bytesOf (q .path))) 4096 (firstReply f path)
+      (first-asked out work (q .path) (q .path-accepted) (q .groups) f (q .groups-accepted) r (q .cut .part f k))
 
   -- What the hub knows of the first replies, in any order: they are accepted; their root is the plant's; and their rows hold what the
   -- parts report of their doors.
@@ -92,13 +97,13 @@ module _ (q : Asked) where
       let (parts, r, e) = perm-of-map write (q .parts) o in
       let c = cut-perm r (q .cut) in
       let s : (f : List ℕ) → Mem f parts → length (write f) ≤ 4096 = λ f m. h (write f) (Memᴰ·map write (perm-same r .0 f m)) in
-      let b = first-bundle (q .plant) parts c path (q .path-accepted .2) s (q .one-root) (q .closed) in
+      let b = first-bundle (q .plant) parts c path path-read s (q .one-root) (q .closed) in
       subst Gathered (sym e) (record {
         bundle = b;
-        word = made-words 7 replyCheck n write parts (c .sites) (firsts-made (q .plant) parts c path (q .path-accepted .2) s);
+        word = made-words 7 replyCheck n write parts (c .sites) (firsts-made (q .plant) parts c path path-read s);
         some = bundle-some 7 replyCheck n (map write parts) (b .replies) (omega (arith, length-map parts write, perm-length r, q .some-part));
-        root-is = first-root (q .plant) parts c path (q .path-accepted .2) s (q .one-root) (q .closed);
-        rows-iff = λ a d. let i = first-rows-iff (q .plant) parts c path (q .path-accepted .2) s (q .one-root) (q .closed) a d in (
+        root-is = first-root (q .plant) parts c path path-read s (q .one-root) (q .closed);
+        rows-iff = λ a d. let i = first-rows-iff (q .plant) parts c path path-read s (q .one-root) (q .closed) a d in (
           λ m. let k = i .0 m in (k .0, perm-same r .0 (k .0) (k .1), k .2, k .3),
           λ k. i .1 (k .0, perm-same r .1 (k .0) (k .1), k .2, k .3),
         );
@@ -136,13 +141,13 @@ module _ (q : Asked) where
 
       -- Demand 3, the second calls
       pub second-call : (out work : ℕ) → Enough 4096 out work → (f : List ℕ) → Mem f (q .parts)
-          → secondReplyCall out work (bytesOf f) (bytesOf (q .path)) (bytesOf (callList (flatten order))) ≡ accepted (secondReply f (q .path) (callList (flatten order)))
+          → secondCall (q .groups) out work (bytesOf f) (bytesOf (q .path)) (bytesOf (callList (flatten order))) ≡ accepted (secondReply f path (callList (flatten order)))
       second-call out work r f i =
           let c = q .cut .part f i in
           let list = callList (flatten order) in
-          second.second-outcome out work f path list (r .0) (r .1) (c .0) (c .1) (c .2) (q .path-accepted .0) (q .path-accepted .1) (q .path-accepted .2)
+          second-asked out work (q .path) (q .path-accepted) (q .groups) f list (q .groups-accepted) r c
           (calls.calls-words n order (g .bundle) k) k (calls.calls-checked n order (g .bundle) k)
-          (second.against-checked f path list (calls.calls-header n order (g .bundle) k .labels-is)
+          (against-checked f (q .path) list (calls.calls-header n order (g .bundle) k .labels-is ∙ ap labelsOf (asks-head (q .groups) (q .path)))
           (λ c m. called-door (q .plant) (q .parts) (q .cut) (q .one-root) (q .closed) e small
           (called-is c .0 (rw (calls.calls-pairs n order (g .bundle)) at m)) f i))
           ∙ outcome-gives 4096 (secondReply f path list) (omega (arith, second.second-length f path list (c .2), c .1))
@@ -173,7 +178,7 @@ module _ (q : Asked) where
 
   -- Demand 3, joining: it is accepted; it lists what the parts found; and it holds the second replies' answers, each once
   module _ {list : List ℕ} {order : List (List ℕ)} (a : Answered list order) where
-    pub join-lists : (xs : List ℕ) × Lists (λ x. (f : List ℕ) × Mem f (q .parts) × Mem x (second.found f (q .path) list)) xs
+    pub join-lists : (xs : List ℕ) × Lists (λ x. (f : List ℕ) × Mem f (q .parts) × Mem x (second.found f path list)) xs
         × (joined (flatten order) ≡ file 15 0 0 (map answerWord xs))
     join-lists = (
       setOf (answersOf (flatten order)),
@@ -203,8 +208,8 @@ module _ (q : Asked) where
 
   -- Replies say their length
 
-  pub first-sized : (f : List ℕ) → Mem f (q .parts) → length (firstReply f (q .path)) ≤ 4096 → Sized (firstReply f (q .path))
-  first-sized f m h = made-sized (first.first-made f path (q .cut .part f m .2) (q .path-accepted .2) h)
+  pub first-sized : (f : List ℕ) → Mem f (q .parts) → length (firstReply f path) ≤ 4096 → Sized (firstReply f path)
+  first-sized f m h = made-sized (first.first-made f path (q .cut .part f m .2) path-read h)
 
-  pub second-sized : (list f : List ℕ) → Mem f (q .parts) → Sized (secondReply f (q .path) list)
+  pub second-sized : (list f : List ℕ) → Mem f (q .parts) → Sized (secondReply f path list)
   second-sized list f m = let c = q .cut .part f m in made-sized (second.second-made f path list (c .2) (c .1))

@@ -1,4 +1,4 @@
--- Demands 2 and 3, for every plant, cut, path, two orders and buffers. Demand 3 is about the run of the whole question: each call gives what it
+-- Demands 2 and 3, for every plant, cut, groups, path, two orders and buffers. Demand 3 is about the run of the whole question: each call gives what it
 -- owes or is refused with 15, so the run goes on from call to call, or stops at one whose reply or list is over its limit. Assumes nothing.
 use mathlib.Core.Path.{_≡_, refl, sym, _∙_, ap, subst, subst₂}
 use mathlib.Core.Logic.{_↔_, _⊎_, inl, inr}
@@ -17,31 +17,34 @@ use Rattle.files.specs.Answers.{answersOf}
 use Rattle.files.proofs.Words.{words-bytes}
 use Rattle.files.proofs.Bytes.{bytes-flatten}
 use Rattle.first_replies.specs.FirstReply.{firstReply}
-use Rattle.site_first.specs.First.{firstReplyCall}
-use Rattle.site_second.specs.Second.{secondReplyCall, calledIn}
+use Rattle.site_second.specs.Second.{calledIn, secondReplyCall}
 use Rattle.site_second.proofs.SecondReplies.{found}
 use Rattle.first_replies.proofs.FirstReplies.{first-reply, first-unique}
 use Rattle.first_replies.proofs.Traffic.{traffic}
 use Rattle.hub_calls.specs.CallList.{callList, callListCall}
 use Rattle.hub_join.specs.Join.{joined, joinCall}
-use Rattle.old.specs.Old.{listed}
-use Rattle.old.proofs.OldSearch.{old-call}
-use Rattle.demands.specs.Plant.{Found, FinalList, body}
-use Rattle.demands.specs.Question.{Call, first, calls, second, join, Asking, stopped, going, _>>=_, call, each, Answer, ask}
-use Rattle.demands.specs.Demand.{Demand2, Asked, Put, Right, question, inOrder, First, at-once, later, Owed, Over, NoneOver, SmallBundles, Claim, Demand3}
+use Rattle.old.specs.Old.{listed, oldSearchCall}
+use Rattle.site_first.specs.First.{firstReplyCall}
+use Rattle.expressions.specs.Labels.{exprOf}
+use Rattle.demands.specs.Plant.{Plant, Fits, Found, FinalList, FinalListBy, body}
+use Rattle.demands.specs.Grouped.{ours, groupsOf, asks, firstCall, secondCall}
+use Rattle.demands.specs.Question.{Room, Call, first, calls, second, join, Asking, stopped, going, _>>=_, call, each, Answer, ask}
+use Rattle.demands.specs.Demand.{Enough, AcceptedPath, Demand2, Asked, Put, Right, question, inOrder, First, at-once, later, Owed, Over, NoneOver, SmallBundles, Claim, Demand3}
 use Rattle.demands.proofs.Comes.{found-iff}
 use Rattle.demands.proofs.Cross.{cross-answers}
 use Rattle.demands.proofs.OldSearch.{final-unique, old-final}
-use Rattle.demands.proofs.Accepts.{e, small, firsts, Owes, Gathered, gathered, called-iff, first-call, hub-call, second-call, Answered, answered, join-call, join-lists, join-perm, first-sized, list-sized, second-sized, joined-sized, joined-words}
+use Rattle.demands.proofs.Accepts.{path, path-read, e, small, firsts, Owes, Gathered, gathered, called-iff, first-call, hub-call, second-call, Answered, answered, join-call, join-lists, join-perm, first-sized, list-sized, second-sized, joined-sized, joined-words}
+use Rattle.demands.proofs.Grouping.{asks-checked, asks-head, old-asked, final-asked}
 use Rattle.demands.proofs.Host.{call-gives, call-refuses, each-gives, stops-here, stops-later}
 use Rattle.demands.proofs.Owed.{firstOf, secondOf, bundle, list, bundle′, owed, Agree, owed-once}
 
 -- a plant that fits one file
 pub demand-2 : Demand2
-demand-2 p whole path fits (w, l, c) n m r = (
-  listed whole path,
-  old-call n m whole path (r .0) (r .1) (fits .word) (fits .small) (fits .whole) w l c,
-  old-final p whole (fits .whole) (fits .holds) (fits .every) path c,
+demand-2 p whole groups path fits g ok n m r = (
+  listed whole (asks groups path),
+  old-asked n m path ok groups whole g r (fits .word) (fits .small) (fits .whole),
+  final-asked p groups path g (listed whole (asks groups path)) .0
+      (old-final p whole (fits .whole) (fits .holds) (fits .every) (asks groups path) (asks-checked groups path g (ok .2))),
 )
 
 -- files written and put together are the bytes of a bundle
@@ -51,7 +54,7 @@ bundle-bytes write fs = ap flatten (sym (map-map bytesOf write fs)) ∙ bytes-fl
 module _ (q : Asked) where
   -- the parts find what walks from the root find
   found-is : {order : List (List ℕ)} → Gathered q order
-      → (x : ℕ) → ((f : List ℕ) × Mem f (q .parts) × Mem x (found f (q .path) (callList (flatten order)))) ↔ Found (q .plant) (e q) x
+      → (x : ℕ) → ((f : List ℕ) × Mem f (q .parts) × Mem x (found f (path q) (callList (flatten order)))) ↔ Found (q .plant) (e q) x
   found-is {order} g x = (
     λ (f, m, k). answers f m .sound x k .1,
     λ k.
@@ -60,33 +63,33 @@ module _ (q : Asked) where
   )
     where
       answers : (f : List ℕ) → Mem f (q .parts)
-          → Lists (λ x. Mem x (nodes (body f)) × Found (q .plant) (e q) x) (found f (q .path) (callList (flatten order)))
+          → Lists (λ x. Mem x (nodes (body f)) × Found (q .plant) (e q) x) (found f (path q) (callList (flatten order)))
       answers f m = cross-answers (q .plant) (q .parts) (q .cut) (q .one-root) (q .closed) (e q) (small q) f m
           (calledIn (body f) (drop 1 (callList (flatten order)))) (called-iff q g f)
 
   module _ (u : Put q) where
     -- the sites' and the hub's calls, as the host makes them
     abbrev firstOutcome : List ℕ → ℕ → ℕ → Outcome
-    firstOutcome part n m = firstReplyCall n m part (bytesOf (q .path))
+    firstOutcome part n m = firstCall (q .groups) n m part (bytesOf (q .path))
 
-    abbrev firstCall : List ℕ → Asking (List ℕ)
-    firstCall part = call (first part) (firstOutcome part) (u .room .first part)
+    abbrev askFirst : List ℕ → Asking (List ℕ)
+    askFirst part = call (first part) (firstOutcome part) (u .room .first part)
 
     abbrev secondOutcome : List ℕ → List ℕ → ℕ → ℕ → Outcome
-    secondOutcome called part n m = secondReplyCall n m part (bytesOf (q .path)) called
+    secondOutcome called part n m = secondCall (q .groups) n m part (bytesOf (q .path)) called
 
-    abbrev secondCall : List ℕ → List ℕ → Asking (List ℕ)
-    secondCall called part = call (second part) (secondOutcome called part) (u .room .second part)
+    abbrev askSecond : List ℕ → List ℕ → Asking (List ℕ)
+    askSecond called part = call (second part) (secondOutcome called part) (u .room .second part)
 
     -- the question after the first bundle, and after the call list
     abbrev after : List ℕ → Asking Answer
-    after called = each (secondCall called) (map bytesOf (u .order′)) >>= (λ seconds.
+    after called = each (askSecond called) (map bytesOf (u .order′)) >>= (λ seconds.
         call join (λ n m. joinCall n m (flatten seconds)) (u .room .join) >>= (λ final. going (record { seconds = seconds; final = final })))
 
     abbrev hub : List (List ℕ) → Asking Answer
     hub firsts = call calls (λ n m. callListCall n m (flatten firsts)) (u .room .calls) >>= after
 
-    is-run : question q u ≡ (each firstCall (map bytesOf (u .order)) >>= hub)
+    is-run : question q u ≡ (each askFirst (map bytesOf (u .order)) >>= hub)
     unfolding ask
     is-run = refl
 
@@ -97,16 +100,16 @@ module _ (q : Asked) where
     part-of′ = perm-same (u .once′) .0
 
     first-owes : (f : List ℕ) → Mem f (u .order)
-        → Owes (firstReplyCall (u .room .first (bytesOf f) .out) (u .room .first (bytesOf f) .work) (bytesOf f) (bytesOf (q .path))) 4096 (firstOf q f)
+        → Owes (firstCall (q .groups) (u .room .first (bytesOf f) .out) (u .room .first (bytesOf f) .work) (bytesOf f) (bytesOf (q .path))) 4096 (firstOf q f)
     first-owes f m = first-call q _ _ (u .enough .first f (part-of f m)) f (part-of f m)
 
     abbrev Short : Type 0
     Short = (f : List ℕ) → Mem f (q .parts) → length (firstOf q f) ≤ 4096
 
-    first-gives : (f : List ℕ) → Mem f (u .order) → length (firstOf q f) ≤ 4096 → firstCall (bytesOf f) ≡ going (bytesOf (firstOf q f))
+    first-gives : (f : List ℕ) → Mem f (u .order) → length (firstOf q f) ≤ 4096 → askFirst (bytesOf f) ≡ going (bytesOf (firstOf q f))
     first-gives f m h = call-gives (first (bytesOf f)) (firstOutcome (bytesOf f)) (u .room .first (bytesOf f)) (firstOf q f) (first-sized q f (part-of f m) h) (first-owes f m .gives h)
 
-    first-over : (f : List ℕ) → Mem f (u .order) → 4096 < length (firstOf q f) → firstCall (bytesOf f) ≡ stopped (first (bytesOf f)) 15
+    first-over : (f : List ℕ) → Mem f (u .order) → 4096 < length (firstOf q f) → askFirst (bytesOf f) ≡ stopped (first (bytesOf f)) 15
     first-over f m h = call-refuses (first (bytesOf f)) (firstOutcome (bytesOf f)) (u .room .first (bytesOf f)) 14 (first-owes f m .over h)
 
     -- no first reply is over its limit: the hub's turn
@@ -120,7 +123,7 @@ module _ (q : Asked) where
       to-hub : question q u ≡ (call calls (λ n m. callListCall n m (bytesOf (bundle q u))) (u .room .calls) >>= after)
       to-hub =
           is-run
-          ∙ ap (λ x. x >>= hub) (each-gives firstCall bytesOf (λ f. bytesOf (firstOf q f)) (u .order) (λ f m. first-gives f m (short f (part-of f m))))
+          ∙ ap (λ x. x >>= hub) (each-gives askFirst bytesOf (λ f. bytesOf (firstOf q f)) (u .order) (λ f m. first-gives f m (short f (part-of f m))))
           ∙ ap (λ b. call calls (λ n m. callListCall n m b) (u .room .calls) >>= after) (bundle-bytes (firstOf q) (u .order))
 
       hub-owes : Owes (callListCall (u .room .calls .out) (u .room .calls .work) (bytesOf (bundle q u))) 4096 (list q u)
@@ -134,7 +137,7 @@ module _ (q : Asked) where
         second-replies : Answered q (list q u) (map (secondOf q (list q u)) (u .order′))
         second-replies = answered q (list q u) (map (secondOf q (list q u)) (u .order′)) (perm-map (secondOf q (list q u)) (u .once′))
 
-        second-gives : (f : List ℕ) → Mem f (u .order′) → secondCall (bytesOf (list q u)) (bytesOf f) ≡ going (bytesOf (secondOf q (list q u) f))
+        second-gives : (f : List ℕ) → Mem f (u .order′) → askSecond (bytesOf (list q u)) (bytesOf f) ≡ going (bytesOf (secondOf q (list q u) f))
         second-gives f m =
             call-gives (second (bytesOf f)) (secondOutcome (bytesOf (list q u)) (bytesOf f)) (u .room .second (bytesOf f)) (secondOf q (list q u) f) (second-sized q (list q u) f (part-of′ f m))
             (second-call q first-replies fits _ _ (u .enough .second f (part-of′ f m)) f (part-of′ f m))
@@ -147,7 +150,7 @@ module _ (q : Asked) where
             to-hub
             ∙ ap (λ x. x >>= after) (call-gives calls (λ n m. callListCall n m (bytesOf (bundle q u))) (u .room .calls) (list q u) (list-sized q first-replies fits) (hub-owes .gives fits))
             ∙ ap (λ x. x >>= (λ ss. call join (λ n m. joinCall n m (flatten ss)) (u .room .join) >>= (λ f. going (record { seconds = ss; final = f }))))
-            (each-gives (secondCall (bytesOf (list q u))) bytesOf (λ f. bytesOf (secondOf q (list q u) f)) (u .order′) second-gives)
+            (each-gives (askSecond (bytesOf (list q u))) bytesOf (λ f. bytesOf (secondOf q (list q u) f)) (u .order′) second-gives)
             ∙ ap (λ x. x >>= (λ f. going (record { seconds = given .seconds; final = f })))
             (ap (λ b. call join (λ n m. joinCall n m b) (u .room .join)) (bundle-bytes (secondOf q (list q u)) (u .order′))
             ∙ call-gives join (λ n m. joinCall n m (bytesOf (bundle′ q u))) (u .room .join) (joined (bundle′ q u)) (joined-sized q second-replies small′)
@@ -171,12 +174,12 @@ module _ (q : Asked) where
           given,
           run-ends,
           record {
-            final = subst (FinalList (q .plant) (e q)) (sym final-words) joined-final;
+            final = final-asked (q .plant) (q .groups) (q .path) (q .groups-accepted) (words (given .final)) .0 (subst (FinalList (q .plant) (e q)) (sym final-words) joined-final);
             once = subst₂ (λ s f. Perm (answersOf s) (answersOf f)) (sym seconds-words) (sym final-words)
                 (join-perm q second-replies small′);
             old = λ whole fit n m r.
-                let (old, gives, is) = demand-2 (q .plant) whole (q .path) fit (q .path-accepted) n m r in
-                gives ∙ ap accepted (final-unique (q .plant) (e q) is joined-final ∙ sym final-words);
+                old-asked n m (q .path) (q .path-accepted) (q .groups) whole (q .groups-accepted) r (fit .word) (fit .small) (fit .whole)
+                ∙ ap accepted (final-unique (q .plant) (e q) (old-final (q .plant) whole (fit .whole) (fit .holds) (fit .every) (path q) (path-read q)) joined-final ∙ sym final-words);
           },
         )
 
@@ -204,16 +207,16 @@ module _ (q : Asked) where
       -- the sites' first calls
       firsts-run : (fs : List (List ℕ)) (cs : List Call) (by : Call) → ((f : List ℕ) → Mem f fs → Mem f (u .order))
           → First (Over q u o) (map (λ f. first (bytesOf f)) fs ++ cs) by
-          → (each firstCall (map bytesOf fs) ≡ stopped by 15) ⊎ (((f : List ℕ) → Mem f fs → length (firstOf q f) ≤ 4096) × First (Over q u o) cs by)
+          → (each askFirst (map bytesOf fs) ≡ stopped by 15) ⊎ (((f : List ℕ) → Mem f fs → length (firstOf q f) ≤ 4096) × First (Over q u o) cs by)
       firsts-run [] cs by i r = inr (λ f m. elim m [ ], r)
       firsts-run (f ∷ fs) cs by i (at-once h) =
           let m = i f (here refl) in
-          inl (stops-here firstCall bytesOf f fs (first (bytesOf f)) 15 (first-over f m (rw (first-is f (part-of f m)) at h)))
+          inl (stops-here askFirst bytesOf f fs (first (bytesOf f)) 15 (first-over f m (rw (first-is f (part-of f m)) at h)))
       firsts-run (f ∷ fs) cs by i (later n r) =
           let m = i f (here refl) in
           let h = first-short f (part-of f m) n in
           elim (firsts-run fs cs by (λ g k. i g (there k)) r) [
-            | inl s ↦ inl (stops-later firstCall bytesOf f fs (bytesOf (firstOf q f)) by 15 (first-gives f m h) s)
+            | inl s ↦ inl (stops-later askFirst bytesOf f fs (bytesOf (firstOf q f)) by 15 (first-gives f m h) s)
             | inr (a, r) ↦ inr (on-cons (λ g. length (firstOf q g) ≤ 4096) h a, r)
           ]
 
@@ -287,5 +290,27 @@ pub demand-3 : Demand3
 demand-3 = record {
   claim = claim;
   owed = owed;
-  traffic = λ part path f p a r. rw (first-unique part path f (firstReply part path) r (first-reply part path p a)) (traffic part path a);
+  traffic = λ groups part path f g p a r.
+      let asked = asks groups path in
+      let read = asks-checked groups path g a in
+      rw (first-unique part asked f (firstReply part asked) r (first-reply part asked p read), ← asks-head groups path) (traffic part asked read);
 }
+
+-- The calls without groups: demand 2 of them, and the question that they ask, as they stood before there were groups. So demand 3 at `ours` is about
+-- that question, and its list is `FinalList`.
+pub plain-2 : (p : Plant) (whole path : List ℕ) → Fits p whole → AcceptedPath path → (n m : ℕ) → Enough 8192 n m
+    → (final : List ℕ) × (oldSearchCall n m (bytesOf whole) (bytesOf path) ≡ accepted final) × FinalList p (exprOf (drop 1 path)) final
+plain-2 p whole path fits ok = demand-2 p whole ours path fits tt ok
+
+pub plain-ask : (room : Room) (path : List ℕ) (order order′ : List (List ℕ))
+    → ask ours room path order order′
+    ≡ (each (λ part. call (first part) (λ n m. firstReplyCall n m part path) (room .first part)) order >>= (λ firsts.
+    call calls (λ n m. callListCall n m (flatten firsts)) (room .calls) >>= (λ list.
+    each (λ part. call (second part) (λ n m. secondReplyCall n m part path list) (room .second part)) order′ >>= (λ seconds.
+    call join (λ n m. joinCall n m (flatten seconds)) (room .join) >>= (λ final. going (record { seconds = seconds; final = final }))))))
+unfolding ask
+plain-ask room path order order′ = refl
+
+pub plain-right : (q : Asked) → q .groups ≡ ours → (a : Answer) → Right q a
+    → FinalList (q .plant) (exprOf (drop 1 (q .path))) (words (a .final))
+plain-right q e a r = subst (λ g. FinalListBy (groupsOf g) (q .plant) (exprOf (drop 1 (q .path))) (words (a .final))) e (r .final)

@@ -18,17 +18,18 @@ use Rattle.files.specs.Refuse.{_then_, roomCheck, sizeCheck}
 use Rattle.files.specs.Outcome.{outcome, leaves}
 use Rattle.files.specs.Part.{partCheck, wholeCheck}
 use Rattle.files.specs.Path.{pathCheck}
+use Rattle.files.specs.Groups.{groupsCheck, loaded}
 use Rattle.files.proofs.Checks.{then-iff, outcome-gives, outcome-over}
 use Rattle.files.proofs.Parts.{whole-part}
 use Rattle.output.specs.Frame.{input, InputRead, Passed}
 use Rattle.output.proofs.Frame.{passed}
-use Rattle.old.specs.Old.{oldSearchCall}
+use Rattle.old.specs.Old.{listed, oldSearchCall, oldSearchGroupedCall}
 use Rattle.old.proofs.OldSearch.{listed-length}
 use Rattle.cutter.specs.Cut.{cutCall}
 use Rattle.cutter.proofs.Cutter.{cut-length}
 use Rattle.cutter.proofs.Parts.{cuts-fit}
-use Rattle.site_first.specs.First.{firstReplyCall}
-use Rattle.site_second.specs.Second.{secondReplyCall}
+use Rattle.site_first.specs.First.{firstReplyCall, firstReplyGroupedCall}
+use Rattle.site_second.specs.Second.{secondReplyCall, secondReplyGroupedCall}
 use Rattle.site_second.proofs.SecondReplies.{second-reply, second-length}
 use Rattle.first_replies.proofs.FirstReplies.{first-reply}
 use Rattle.hub_calls.proofs.CallLists.{call-list}
@@ -36,10 +37,12 @@ use Rattle.hub_calls.specs.CallList.{callListCall}
 use Rattle.hub_join.specs.Join.{joinCall}
 use Rattle.hub_join.proofs.Joining.{joined-list, joined-fits}
 use Rattle.demands.specs.PlantOf.{plantOf}
+use Rattle.demands.specs.Grouped.{own}
 use Rattle.demands.specs.Demand1.{Settles, rows, Demand1}
 use Rattle.demands.proofs.PlantOf.{plant-holds}
 use Rattle.demands.proofs.OldSearch.{old-final}
-use Rattle.demands.proofs.Numbers.{Among, among, among-more, among-first, size-numbers, part-numbers, whole-numbers, cuts-numbers, path-numbers, calls-numbers, against-numbers, firsts-numbers, seconds-numbers}
+use Rattle.demands.proofs.Grouping.{asks-checked, final-asked}
+use Rattle.demands.proofs.Numbers.{Among, among, among-more, among-first, size-numbers, part-numbers, whole-numbers, cuts-numbers, path-numbers, groups-numbers, calls-numbers, against-numbers, firsts-numbers, seconds-numbers}
 
 -- A call whose checks are those of the buffers, of the size of its first input s, and then c. It settles if c gives only its numbers, and if, when
 -- all checks pass, the result is what it owes and within its limit, or 15 is one of the numbers.
@@ -60,7 +63,7 @@ settles ks limit most n m s c Owed result t u a h = go (roomCheck limit n m then
     go (suc k) e (inr i) = inl (suc k, i, refl)
 
 pub demand-1 : Demand1
-unfolding oldSearchCall cutCall firstReplyCall callListCall secondReplyCall joinCall
+unfolding oldSearchCall cutCall firstReplyCall callListCall secondReplyCall joinCall oldSearchGroupedCall firstReplyGroupedCall secondReplyGroupedCall
 demand-1 = record {
   old-search = λ whole path n m. settles _ _ _ n m whole _ _ _ tt tt
       (among-first tt (whole-numbers (words whole)) (among-first tt (size-numbers 64 path) (among-more tt (path-numbers (words path)))))
@@ -91,9 +94,35 @@ demand-1 = record {
       (second-reply (words part) (words path) (words calls) a b, inl (omega (arith, second-length (words part) (words path) (words calls) a, p .few))));
   join = λ bundle n m. settles _ _ _ n m bundle _ _ _ tt tt (among-more tt (seconds-numbers (words bundle)))
       (λ p. (joined-list (words bundle), inl (joined-fits (words bundle) (p .read) (p .some) (p .few))));
+  old-search-grouped = λ whole groups path n m. settles _ _ _ n m whole _ _ _ tt tt
+      (among-first tt (whole-numbers (words whole)) (among-first tt (groups-numbers groups) (among-first tt (size-numbers 64 path) (among-more tt (path-numbers (words path))))))
+      (λ p.
+      let (w, r) = then-iff (wholeCheck (words whole)) _ .0 (p .read) in
+      let (g, s) = then-iff (groupsCheck groups) _ .0 r in
+      let asked = loaded (words groups) (words path) in (
+        final-asked (plantOf (words whole)) (own groups) (words path) g (listed (words whole) asked) .0
+            (old-final (plantOf (words whole)) (words whole) w (plant-holds (words whole)) (λ x m. m) asked (asks-checked (own groups) (words path) g (then-iff (sizeCheck 64 path) _ .0 s .1))),
+        inl (omega (arith, listed-length (words whole) asked (p .some), p .few)),
+      ));
+  first-reply-grouped = λ part groups path n m. settles _ _ _ n m part _ _ _ tt tt
+      (among-first tt (part-numbers (words part)) (among-first tt (groups-numbers groups) (among-first tt (size-numbers 64 path) (among-more tt (path-numbers (words path))))))
+      (λ p.
+      let (a, r) = then-iff (partCheck (words part)) _ .0 (p .read) in
+      let (g, s) = then-iff (groupsCheck groups) _ .0 r in
+      (first-reply (words part) (loaded (words groups) (words path)) a (asks-checked (own groups) (words path) g (then-iff (sizeCheck 64 path) _ .0 s .1)), inr tt));
+  second-reply-grouped = λ part groups path calls n m. settles _ _ _ n m part _ _ _ tt tt
+      (among-first tt (part-numbers (words part)) (among-first tt (groups-numbers groups) (among-first tt (size-numbers 64 path) (among-first tt (path-numbers (words path))
+      (among-first tt (size-numbers 4096 calls) (among-first tt (calls-numbers (words calls))
+      (among-more tt (against-numbers (words part) (words path) (words calls)))))))))
+      (λ p.
+      let (a, r) = then-iff (partCheck (words part)) _ .0 (p .read) in
+      let (g, s) = then-iff (groupsCheck groups) _ .0 r in
+      let (b, _) = then-iff (pathCheck (words path)) _ .0 (then-iff (sizeCheck 64 path) _ .0 s .1) in
+      let asked = loaded (words groups) (words path) in
+      (second-reply (words part) asked (words calls) a (asks-checked (own groups) (words path) g b), inl (omega (arith, second-length (words part) asked (words calls) a, p .few))));
   -- by computation
   numbered = λ row i k j.
-      let test : ℕ → Bool = λ k. leb 1 k && leb k 15 in
+      let test : ℕ → Bool = λ k. leb 1 k && leb k 16 in
       let t = all-iff test row .0 (all-iff (λ row. not (any (λ k. not (test k)) row)) rows .0 tt row i) k j in
       simp (and-iff, le-iff) at t;
 }

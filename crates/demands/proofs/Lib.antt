@@ -4,6 +4,7 @@ pub mod OldSearch
 pub mod Cross
 pub mod Bundles
 pub mod Host
+pub mod Grouping
 pub mod Accepts
 pub mod PlantOf
 pub mod Cutter

@@ -20,6 +20,7 @@ use Rattle.files.specs.declared.reply.Seen.{Seen as ReplySeen}
 use Rattle.files.specs.Limits.{mostWaiting}
 use Rattle.files.specs.Path.{pathCheck}
 use Rattle.files.specs.Path as path
+use Rattle.files.specs.Groups.{groupsCheck}
 use Rattle.files.specs.Reply.{replyCheck}
 use Rattle.files.specs.Reply as reply
 use Rattle.files.specs.Calls.{callCheck, callsCheck}
@@ -110,7 +111,7 @@ whole-numbers ws = among-first tt (part-numbers ws) (search among)
 pub cuts-numbers : (whole cuts : List ℕ) (site : ℕ) → Among (11 ∷ []) (cutCheck whole cuts site)
 cuts-numbers whole cuts site = search among
 
--- Paths
+-- Paths and groups
 
 path-word : (most waiting w : ℕ) → Among (5 ∷ 9 ∷ []) (path.wordCheck most waiting w)
 path-word most waiting w = search among
@@ -118,6 +119,9 @@ path-word most waiting w = search among
 pub path-numbers : (ws : List ℕ) → Among (2 ∷ 3 ∷ 4 ∷ 5 ∷ 9 ∷ []) (pathCheck ws)
 path-numbers = file-numbers 4 (path.bodyCheck mostWaiting)
     (λ h ws. among-then (among-scan _ path.waits path.endCheck (path-word mostWaiting) (λ waiting. search among) 0 ws) (search among)) false true
+
+pub groups-numbers : (s : List ℕ) → Among (16 ∷ []) (groupsCheck s)
+groups-numbers s = search among
 
 -- Call lists
 

@@ -16,8 +16,8 @@ use Rattle.expressions.specs.Labels.{exprOf}
 use Rattle.first_replies.specs.FirstReply.{IsFirstReply}
 use Rattle.site_second.specs.Second.{IsSecondReply}
 use Rattle.hub_calls.specs.CallList.{IsCallList}
-use Rattle.old.specs.Old.{oldSearchCall}
-use Rattle.demands.specs.Plant.{Plant, OneRoot, Closed, TrueCut, Fits, Words, FinalList}
+use Rattle.demands.specs.Plant.{Plant, OneRoot, Closed, TrueCut, Fits, Words, FinalListBy}
+use Rattle.demands.specs.Grouped.{Groups, AcceptedGroups, groupsOf, asks, oldCall}
 use Rattle.demands.specs.Question.{Room, Call, first, calls, second, join, Asking, stopped, going, Answer, ask}
 
 -- n bytes are enough for a result of `limit` words, and m for the work
@@ -28,13 +28,14 @@ Enough limit n m = (4 * limit ≤ n) × (32768 ≤ m)
 abbrev pub AcceptedPath : List ℕ → Type 0
 AcceptedPath path = Words path × (length path ≤ 64) × (pathCheck path ≡ 0)
 
--- Demand 2: of a plant that fits one file, and for every accepted path, the old search lists exactly the nodes to which a walk from the root
--- spells a word of the expression, textbook meaning, ascending, each once.
+-- Demand 2: of a plant that fits one file, and for every accepted path and groups, the old search lists exactly the nodes to which a walk from the
+-- root spells a word of the expression, textbook meaning, ascending, each once.
 abbrev pub Demand2 : Type 1
-Demand2 = (p : Plant) (whole path : List ℕ) → Fits p whole → AcceptedPath path → (n m : ℕ) → Enough 8192 n m
-    → (final : List ℕ) × (oldSearchCall n m (bytesOf whole) (bytesOf path) ≡ accepted final) × FinalList p (exprOf (drop 1 path)) final
+Demand2 = (p : Plant) (whole : List ℕ) (groups : Groups) (path : List ℕ) → Fits p whole → AcceptedGroups groups → AcceptedPath path
+    → (n m : ℕ) → Enough 8192 n m
+    → (final : List ℕ) × (oldCall groups n m (bytesOf whole) (bytesOf path) ≡ accepted final) × FinalListBy (groupsOf groups) p (exprOf (drop 1 path)) final
 
--- Demand 3's givens: a plant with one root and no link that ends outside it, a true cut of it, and a path that all sites accept. That the parts
+-- Demand 3's givens: a plant with one root and no link that ends outside it, a true cut of it, and groups and a path that all sites accept. That the parts
 -- are one to sixteen, as sites are 0 to 15, follows from the rest (`some-part` and `few-parts` of proofs/Cutter.antt), and is said for the reader.
 pub record Asked : Type 1 where
   pub plant : Plant
@@ -44,6 +45,8 @@ pub record Asked : Type 1 where
   pub some-part : 1 ≤ length parts
   pub few-parts : length parts ≤ 16
   pub cut : TrueCut plant parts
+  pub groups : Groups
+  pub groups-accepted : AcceptedGroups groups
   pub path : List ℕ
   pub path-accepted : AcceptedPath path
 
@@ -72,15 +75,15 @@ module _ (q : Asked) where
   -- What a question that no call refuses must end with: the joined list is demand 2's list; the second replies together hold exactly the listed
   -- nodes, each once; and the list is equal in every word to the old search's wherever the plant fits one file
   pub record Right (a : Answer) : Type 0 where
-    pub final : FinalList (q .plant) (exprOf (drop 1 (q .path))) (words (a .final))
+    pub final : FinalListBy (groupsOf (q .groups)) (q .plant) (exprOf (drop 1 (q .path))) (words (a .final))
     pub once : Perm (answersOf (words (flatten (a .seconds)))) (answersOf (words (a .final)))
     pub old : (whole : List ℕ) → Fits (q .plant) whole → (n m : ℕ) → Enough 8192 n m
-        → oldSearchCall n m (bytesOf whole) (bytesOf (q .path)) ≡ accepted (words (a .final))
+        → oldCall (q .groups) n m (bytesOf whole) (bytesOf (q .path)) ≡ accepted (words (a .final))
 
   module _ (u : Put) where
     -- the question that is asked
     abbrev pub question : Asking Answer
-    question = ask (u .room) (bytesOf (q .path)) (map bytesOf (u .order)) (map bytesOf (u .order′))
+    question = ask (q .groups) (u .room) (bytesOf (q .path)) (map bytesOf (u .order)) (map bytesOf (u .order′))
 
     -- its calls, in the order in which they are made
     abbrev pub inOrder : List Call
@@ -92,9 +95,9 @@ module _ (q : Asked) where
       pub firstOf : List ℕ → List ℕ
       pub list : List ℕ
       pub secondOf : List ℕ → List ℕ
-      pub first : (f : List ℕ) → Mem f (q .parts) → IsFirstReply f (q .path) (firstOf f)
+      pub first : (f : List ℕ) → Mem f (q .parts) → IsFirstReply f (asks (q .groups) (q .path)) (firstOf f)
       pub calls : IsCallList (flatten (map firstOf (u .order))) list
-      pub second : (f : List ℕ) → Mem f (q .parts) → IsSecondReply f (q .path) list (secondOf f)
+      pub second : (f : List ℕ) → Mem f (q .parts) → IsSecondReply f (asks (q .groups) (q .path)) list (secondOf f)
 
     module _ (o : Owed) where
       -- the first reply or call list that a call owes is over its limit
@@ -123,14 +126,14 @@ module _ (q : Asked) where
         -- where none does, it ends with the right list and replies
         pub ends : NoneOver → (a : Answer) × (question ≡ going a) × Right a
 
--- whatever its part and path, a site with D doors and T outside targets sends at most D × T × n × (n + 1) reach words
+-- whatever its part, groups and path, a site with D doors and T outside targets sends at most D × T × n × (n + 1) reach words
 abbrev pub Traffic : Type 0
 Traffic =
-    (part path f : List ℕ) → partCheck part ≡ 0 → pathCheck path ≡ 0 → IsFirstReply part path f
+    (groups : Groups) (part path f : List ℕ) → AcceptedGroups groups → partCheck part ≡ 0 → pathCheck path ≡ 0 → IsFirstReply part (asks groups path) f
     → length (filter isReach (drop 1 f))
     ≤ length (doors (drop 1 part)) * length (outside (drop 1 part)) * labelsOf (getD path 0 0) * suc (labelsOf (getD path 0 0))
 
--- Demand 3, entire: one claim about the question, for every plant, cut, path, two orders and buffers, whatever files meet document 01's words
+-- Demand 3, entire: one claim about the question, for every plant, cut, groups, path, two orders and buffers, whatever files meet document 01's words
 -- of what the calls owe; that there are such files; and the bound on traffic
 pub record Demand3 : Type 1 where
   pub claim : (q : Asked) (u : Put q) (o : Owed q u) → SmallBundles q u o → Claim q u o

@@ -1,5 +1,5 @@
--- Believed. The user's demand 1. Any file, cut list or bundle, with buffers of any length, gets its one result or a refusal under a number
--- of document 01, and a refusal leaves output and working buffer all zero. It is said of `leaves` of the calls' outcomes, and that is what the
+-- Believed. The user's demand 1. Any file, cut list, bundle or groups, with buffers of any length, gets its one result or a refusal under a number
+-- of document 01 or 02, and a refusal leaves output and working buffer all zero. It is said of `leaves` of the calls' outcomes, and that is what the
 -- calls leave, by their contracts (mowqachi/src/lib.rt). That a call ends and touches nothing else is what the check proves of every function.
 use Prim.Native.Nat.{ℕ, _*_, _≤_}
 use mathlib.Core.Path.{_≡_}
@@ -9,16 +9,17 @@ use lib.ListN.{length, drop}
 use Rattle.sets.specs.Sets.{Mem}
 use Rattle.files.specs.Word.{words}
 use Rattle.files.specs.Outcome.{Outcome, zeros, padded, left, leaves}
+use Rattle.files.specs.Groups.{loaded}
 use Rattle.expressions.specs.Labels.{exprOf}
 use Rattle.first_replies.specs.FirstReply.{IsFirstReply}
-use Rattle.site_first.specs.First.{firstReplyCall}
-use Rattle.site_second.specs.Second.{IsSecondReply, secondReplyCall}
+use Rattle.site_first.specs.First.{firstReplyCall, firstReplyGroupedCall}
+use Rattle.site_second.specs.Second.{IsSecondReply, secondReplyCall, secondReplyGroupedCall}
 use Rattle.hub_calls.specs.CallList.{IsCallList, callListCall}
 use Rattle.hub_join.specs.Join.{IsJoined, joinCall}
-use Rattle.old.specs.Old.{oldSearchCall}
+use Rattle.old.specs.Old.{oldSearchCall, oldSearchGroupedCall}
 use Rattle.cutter.specs.Cut.{cutCall}
 use Rattle.cutter.specs.Cut as cutter
-use Rattle.demands.specs.Plant.{FinalList}
+use Rattle.demands.specs.Plant.{FinalList, FinalListBy}
 use Rattle.demands.specs.PlantOf.{plantOf}
 
 -- What a call leaves of an output of n and a working buffer of m bytes, one of two. A refusal: its number is one of the call's, and both buffers
@@ -48,10 +49,16 @@ secondReplyNumbers = 1 ∷ 2 ∷ 3 ∷ 4 ∷ 5 ∷ 6 ∷ 7 ∷ 9 ∷ 10 ∷ 12 �
 abbrev pub joinNumbers : List ℕ
 joinNumbers = 1 ∷ 2 ∷ 3 ∷ 4 ∷ 5 ∷ 6 ∷ 12 ∷ 13 ∷ []
 
-abbrev pub rows : List (List ℕ)
-rows = oldSearchNumbers ∷ cutNumbers ∷ firstReplyNumbers ∷ callListNumbers ∷ secondReplyNumbers ∷ joinNumbers ∷ []
+-- a grouped call has those of the call without groups, and 16
+abbrev pub grouped : List ℕ → List ℕ
+grouped numbers = 16 ∷ numbers
 
--- Demand 1: for all bytes and all buffers. What a call owes is said in document 01's words, which one file at most meets (docs/DECISIONS.md, 68).
+abbrev pub rows : List (List ℕ)
+rows =
+    oldSearchNumbers ∷ cutNumbers ∷ firstReplyNumbers ∷ callListNumbers ∷ secondReplyNumbers ∷ joinNumbers
+    ∷ grouped oldSearchNumbers ∷ grouped firstReplyNumbers ∷ grouped secondReplyNumbers ∷ []
+
+-- Demand 1: for all bytes and all buffers. What a call owes is said in the documents' words, which one file at most meets (docs/DECISIONS.md, 68).
 pub record Demand1 : Type 1 where
   pub old-search : (whole path : List ℕ) (n m : ℕ)
       → Settles oldSearchNumbers 8192 (FinalList (plantOf (words whole)) (exprOf (drop 1 (words path)))) (oldSearchCall n m whole path) n m
@@ -61,5 +68,11 @@ pub record Demand1 : Type 1 where
   pub second-reply : (part path calls : List ℕ) (n m : ℕ)
       → Settles secondReplyNumbers 4096 (IsSecondReply (words part) (words path) (words calls)) (secondReplyCall n m part path calls) n m
   pub join : (bundle : List ℕ) (n m : ℕ) → Settles joinNumbers 8192 (IsJoined (words bundle)) (joinCall n m bundle) n m
-  -- the numbers are document 01's, and 0 is none of them: a call gives its result or is refused, and not both
-  pub numbered : (row : List ℕ) → Mem row rows → (k : ℕ) → Mem k row → (1 ≤ k) × (k ≤ 15)
+  pub old-search-grouped : (whole groups path : List ℕ) (n m : ℕ)
+      → Settles (grouped oldSearchNumbers) 8192 (FinalListBy (words groups) (plantOf (words whole)) (exprOf (drop 1 (words path)))) (oldSearchGroupedCall n m whole groups path) n m
+  pub first-reply-grouped : (part groups path : List ℕ) (n m : ℕ)
+      → Settles (grouped firstReplyNumbers) 4096 (IsFirstReply (words part) (loaded (words groups) (words path))) (firstReplyGroupedCall n m part groups path) n m
+  pub second-reply-grouped : (part groups path calls : List ℕ) (n m : ℕ)
+      → Settles (grouped secondReplyNumbers) 4096 (IsSecondReply (words part) (loaded (words groups) (words path)) (words calls)) (secondReplyGroupedCall n m part groups path calls) n m
+  -- the numbers are those of documents 01 and 02, and 0 is none of them: a call gives its result or is refused, and not both
+  pub numbered : (row : List ℕ) → Mem row rows → (k : ℕ) → Mem k row → (1 ≤ k) × (k ≤ 16)

@@ -5,9 +5,10 @@ use mathlib.Core.List.{List, [], _∷_, map}
 use lib.ListN.{length, drop, getD}
 use Rattle.sets.specs.Sets.{Mem, Distinct, Lists}
 use Rattle.files.specs.Field.{siteOf, labelOf, targetOf, file, answerWord}
+use Rattle.files.specs.Groups.{ourGroups}
 use Rattle.files.specs.Part.{nodes, roots, doors, stopped, edges, partCheck, wholeCheck}
 use Rattle.expressions.specs.Expr.{Expr, Matches}
-use Rattle.expressions.specs.Labels.{holds}
+use Rattle.expressions.specs.Labels.{holdsBy}
 
 -- Document 01's "plant": a set of nodes, with roots among them, and for each node a set of links; a link is a label and a target. Some of its
 -- nodes are stopped (document 02, request 7). Sets are predicates: no file, and no bound on its size.
@@ -30,14 +31,21 @@ pub data Walk (p : Plant) : ℕ → List ℕ → ℕ → Type 0 where
   stay : {x : ℕ} → Running p x → Walk p x [] x
   go : {x a y z : ℕ} {w : List ℕ} → Running p x → p .Link x a y → Walk p y w z → Walk p x (a ∷ w) z
 
--- some walk from a root to x spells a word of the expression
-abbrev pub Found : Plant → Expr → ℕ → Type 0
-Found p e x = (r : ℕ) × (w : List ℕ) × p .Root r × Walk p r w x × Matches holds e w
+-- some walk from a root to x spells a word of the expression, textbook meaning, where word g of the groups stands for group g
+abbrev pub FoundBy : List ℕ → Plant → Expr → ℕ → Type 0
+FoundBy groups p e x = (r : ℕ) × (w : List ℕ) × p .Root r × Walk p r w x × Matches (holdsBy groups) e w
 
 -- "Demand 2's list": the nodes to which a walk from the root spells a word of the path's expression, ascending, each once, written as a final
 -- list
+abbrev pub FinalListBy : List ℕ → Plant → Expr → List ℕ → Type 0
+FinalListBy groups p e ws = (xs : List ℕ) × Lists (FoundBy groups p e) xs × (ws ≡ file 15 0 0 (map answerWord xs))
+
+-- with our own groups
+abbrev pub Found : Plant → Expr → ℕ → Type 0
+Found p e x = FoundBy ourGroups p e x
+
 abbrev pub FinalList : Plant → Expr → List ℕ → Type 0
-FinalList p e ws = (xs : List ℕ) × Lists (Found p e) xs × (ws ≡ file 15 0 0 (map answerWord xs))
+FinalList p e ws = FinalListBy ourGroups p e ws
 
 -- one root
 pub record OneRoot (p : Plant) : Type 0 where

@@ -6,10 +6,9 @@ use lib.ListN.{take, getD}
 use Rattle.files.specs.Word.{words}
 use Rattle.files.specs.Field.{sizeOf}
 use Rattle.files.specs.Outcome.{Outcome, Left, leaves}
-use Rattle.site_first.specs.First.{firstReplyCall}
-use Rattle.site_second.specs.Second.{secondReplyCall}
 use Rattle.hub_calls.specs.CallList.{callListCall}
 use Rattle.hub_join.specs.Join.{joinCall}
+use Rattle.demands.specs.Grouped.{Groups, firstCall, secondCall}
 
 -- the bytes of a call's output and working buffer
 pub record Buffers : Type 0 where
@@ -68,11 +67,11 @@ pub record Answer : Type 0 where
   pub seconds : List (List ℕ)
   pub final : List ℕ
 
--- the whole question, from the parts' bytes in two orders
-unfoldable pub ask : Room → List ℕ → List (List ℕ) → List (List ℕ) → Asking Answer
-ask room path order order′ = do
-  firsts ← each (λ part. call (first part) (λ n m. firstReplyCall n m part path) (room .first part)) order
+-- the whole question, asked with some groups, from the parts' bytes in two orders
+unfoldable pub ask : Groups → Room → List ℕ → List (List ℕ) → List (List ℕ) → Asking Answer
+ask groups room path order order′ = do
+  firsts ← each (λ part. call (first part) (λ n m. firstCall groups n m part path) (room .first part)) order
   list ← call calls (λ n m. callListCall n m (flatten firsts)) (room .calls)
-  seconds ← each (λ part. call (second part) (λ n m. secondReplyCall n m part path list) (room .second part)) order′
+  seconds ← each (λ part. call (second part) (λ n m. secondCall groups n m part path list) (room .second part)) order′
   final ← call join (λ n m. joinCall n m (flatten seconds)) (room .join)
   going (record { seconds = seconds; final = final })

@@ -145,7 +145,7 @@ module _ (reads : ℕ → ℕ → Bool) where
     whole-star [] n = ([], refl, tt)
     whole-star (x ∷ w) r = let s = rest-star w (r .0) (r .3) in ((x ∷ s .0) ∷ s .1, ap (x ∷_) (s .2), ((r .0, r .1, r .2, s .3), s .4))
 
-All-map : {P Q : List ℕ → Type 0} → ((u : List ℕ) → P u → Q u) → (us : List (List ℕ)) → All P us → All Q us
+pub All-map : {P Q : List ℕ → Type 0} → ((u : List ℕ) → P u → Q u) → (us : List (List ℕ)) → All P us → All Q us
 All-map f [] m = tt
 All-map f (u ∷ us) m = (f u (m .0), All-map f us (m .1))
 

@@ -1,6 +1,6 @@
 -- What a label word of sort 2 holds (document 02, request 1): exactly the labels that the range with its ends does not. Assumes nothing.
 use mathlib.Core.Path.{_≡_, sym, _∙_}
-use mathlib.Core.Bool.{not, _||_}
+use mathlib.Core.Bool.{not, _||_, and-false}
 use mathlib.Core.Logic.{_↔_, _⊎_, inl, inr, ⊎-elim}
 use Prim.Native.Nat.{ℕ, _+_, _-_, _^_, _≤_, _<_}
 use native.Mathlib.Omega.{arith}
@@ -11,11 +11,11 @@ use Rattle.files.specs.Path.{sortOf, highOf, lowOf, rangeWord, outsideWord}
 use Rattle.files.proofs.Fields.{range, outside}
 use Rattle.expressions.specs.Labels.{inRange, holds}
 
-range-holds : (l a : ℕ) → sortOf l ≡ 0 → holds l a ≡ inRange l a
-range-holds l a e = rw e
+pub range-holds : (l a : ℕ) → sortOf l ≡ 0 → holds l a ≡ inRange l a
+range-holds l a e = rw (e, and-false)
 
 outside-holds : (l a : ℕ) → sortOf l ≡ 2 → holds l a ≡ not (inRange l a)
-outside-holds l a e = rw e
+outside-holds l a e = rw (e, and-false)
 
 -- a word of sort 2 beside one of sort 0 with the same ends
 pub complement : (l r : ℕ) → sortOf l ≡ 2 → sortOf r ≡ 0 → lowOf l ≡ lowOf r → highOf l ≡ highOf r → (a : ℕ) → holds l a ≡ not (holds r a)

@@ -5,3 +5,4 @@ pub mod Paths
 pub mod Examples
 pub mod Labels
 pub mod Waiting
+pub mod Loading

@@ -1,21 +1,15 @@
 -- Believed. Which labels a label word holds, and the expression of a path's words. Document 01, "Words" (groups) and
--- "Path"; document 02, request 1 (sort 2).
+-- "Path"; document 02, requests 1 (sort 2) and 3 (groups as eight words).
 use Prim.Native.Nat.{ℕ, zero, suc}
 use mathlib.Core.Bool.{Bool, cond, not, _&&_}
-use mathlib.Core.List.{List, [], _∷_, map}
+use mathlib.Core.List.{List, [], map}
 use mathlib.Core.Option.{Option, none, some}
 use lib.Dec.{eqb, leb}
 use lib.ListN.{getD}
 use Rattle.files.specs.Path.{isLabel, sortOf, highOf, lowOf, groupOf, operatorOf}
+use Rattle.files.specs.Groups.{isGroup, ourGroups}
 use Rattle.expressions.specs.Expr.{Expr, empty}
 use Rattle.expressions.specs.Postfix.{Item, put-empty, put-letter, make-then, make-or, make-star, read}
-
--- the groups' ends, low to high
-abbrev pub groupLow : ℕ → ℕ
-groupLow g = getD (0 ∷ 0 ∷ 0 ∷ 1024 ∷ 1536 ∷ 1792 ∷ 2048 ∷ 4032 ∷ []) g 0
-
-abbrev pub groupHigh : ℕ → ℕ
-groupHigh g = getD (4095 ∷ 1023 ∷ 255 ∷ 1535 ∷ 1791 ∷ 2047 ∷ 3071 ∷ 4095 ∷ []) g 0
 
 abbrev pub between : ℕ → ℕ → ℕ → Bool
 between low high a = leb low a && leb a high
@@ -23,14 +17,16 @@ between low high a = leb low a && leb a high
 abbrev pub inRange : ℕ → ℕ → Bool
 inRange l a = between (lowOf l) (highOf l) a
 
-abbrev pub inGroup : ℕ → ℕ → Bool
-inGroup g a = between (groupLow g) (groupHigh g) a
+-- the label word l holds the label a, where word g of the groups stands for group g: sort 1 a group, sort 2 all labels outside a range, sort 0 a
+-- range
+abbrev pub holdsBy : List ℕ → ℕ → ℕ → Bool
+holdsBy groups l a =
+    cond (isGroup l) (inRange (getD groups (groupOf l) 0) a)
+    (cond (eqb (sortOf l) 2) (not (inRange l a)) (inRange l a))
 
--- the label word l holds the label a: sort 0 a range, sort 2 all labels outside it, sort 1 a group
+-- and with our own groups
 abbrev pub holds : ℕ → ℕ → Bool
-holds l a =
-    cond (eqb (sortOf l) 0) (inRange l a)
-    (cond (eqb (sortOf l) 2) (not (inRange l a)) (inGroup (groupOf l) a))
+holds l a = holdsBy ourGroups l a
 
 abbrev pub operatorItem : ℕ → Item
 operatorItem zero = put-empty

@@ -7,6 +7,7 @@ pub mod Counts
 pub mod Headers
 pub mod Buffers
 pub mod Exprs
+pub mod Groups
 pub mod Fields
 pub mod Blocks
 pub mod Parts

@@ -8,6 +8,7 @@ pub mod Read
 pub mod Part
 pub mod Cuts
 pub mod Path
+pub mod Groups
 pub mod Expr
 pub mod Reply
 pub mod Calls

@@ -1,5 +1,5 @@
--- Believed. Limits: of files, in words with the header; of the operands that wait in a path; of the working buffer, in bytes. Document 01; document
--- 02, request 9 (eight operands).
+-- Believed. Limits: of files, in words with the header; of the operands that wait in a path; of the working buffer, in bytes; and how many label
+-- groups there are. Document 01; document 02, request 9 (eight operands).
 use Prim.Native.Nat.{ℕ}
 
 -- a part, and so a whole
@@ -12,6 +12,10 @@ pathWords = 64
 -- the most operands that may wait after any word of a path
 abbrev pub mostWaiting : ℕ
 mostWaiting = 8
+
+-- the label groups
+abbrev pub groupCount : ℕ
+groupCount = 8
 
 -- a first reply, a call list, a second reply
 abbrev pub replyWords : ℕ

@@ -8,13 +8,14 @@ ghost use lib.Dec.{eqb, leb};
 ghost use Rattle.files.specs.Field.{bits};
 ghost use Rattle.files.specs.Refuse.{_unless_};
 ghost use Rattle.files.specs.Path.{isLabel, sortOf, hasEnds, lowOf, highOf, groupOf, operatorOf, labelCheck, operatorCheck};
+ghost use Rattle.files.specs.Groups.{isRange};
 ghost use Rattle.files.specs.Expr.{exprCheck, labelAt, exprAt};
 
 // The labels that a label word holds: those of a range, its low and its high end; those of a group; or those outside a range.
 pub enum Label {
-    Range(u32, u32),
+    Range(u16, u16),
     Group(u32),
-    Outside(u32, u32),
+    Outside(u16, u16),
 }
 
 // 0 empty word, 1 then, 2 or, 3 star; wrong, where the word is no expression word.
@@ -43,16 +44,16 @@ fn has_ends(w: u32) -> bool
     (k == 0) | (k == 2)
 }
 
-fn low(w: u32) -> u32
+pub fn low(w: u32) -> u16
     ensures { λ r. ⌜ r ≡ lowOf w ⌝ }
 {
-    w % 0x1000
+    (w % 0x1000) as u16
 }
 
-fn high(w: u32) -> u32
+pub fn high(w: u32) -> u16
     ensures { λ r. ⌜ r ≡ highOf w ⌝ }
 {
-    w / 0x1000 % 0x1000
+    (w / 0x1000 % 0x1000) as u16
 }
 
 fn group(w: u32) -> u32
@@ -65,6 +66,13 @@ fn operator(w: u32) -> u32
     ensures { λ r. ⌜ r ≡ operatorOf w ⌝ }
 {
     w % 4
+}
+
+// A range word, its low end not above the high one.
+pub fn is_range(w: u32) -> bool
+    ensures { λ r. ⌜ r ≡ isRange w ⌝ }
+{
+    is_label(w) & (sort(w) == 0) & (low(w) <= high(w))
 }
 
 fn check_range(w: u32) -> u32

@@ -2,10 +2,12 @@
 ghost use mathlib.Core.Path.{_≡_};
 ghost use Rattle.labels.specs.Interval.{within, groupInterval, labelSet};
 use files::expr::Label;
+use files::expr::high;
+use files::expr::low;
 
 pub struct Interval {
-    pub low: u32,
-    pub high: u32,
+    pub low: u16,
+    pub high: u16,
 }
 
 pub struct LabelSet {
@@ -13,35 +15,31 @@ pub struct LabelSet {
     pub outside: bool,
 }
 
-// The groups' ends, low to high.
-const LOWS: [u32; 8] = [0, 0, 0, 1024, 1536, 1792, 2048, 4032];
-
-const HIGHS: [u32; 8] = [4095, 1023, 255, 1535, 1791, 2047, 3071, 4095];
-
 pub fn holds(i: Interval, label: u32) -> bool
     ensures { λ r. ⌜ r ≡ within i label ⌝ }
 {
-    (i.low <= label) & (label <= i.high)
+    (i.low as u32 <= label) & (label <= i.high as u32)
 }
 
-// The labels of a group, of which there are eight.
-fn group(g: u32) -> Interval
-    ensures { λ r. ⌜ r ≡ groupInterval g ⌝ }
+// The labels of a group, by its range word.
+fn group(groups: &[u32], g: u32) -> Interval
+    ensures { λ r. ⌜ r ≡ groupInterval (now (groups .entry)) g ⌝ }
 {
     let at = g as usize;
-    if at < 8 {
+    if at < groups.len() {
+        let w = groups[at];
         Interval {
-            low: LOWS[at],
-            high: HIGHS[at],
+            low: low(w),
+            high: high(w),
         }
     } else {
         Interval { low: 0, high: 0 }
     }
 }
 
-// What a label word holds: a search sees no groups.
-pub fn resolve(l: Label) -> LabelSet
-    ensures { λ r. ⌜ r ≡ labelSet l ⌝ }
+// What a label word holds, its group read by the groups: an automaton and what searches by it see none.
+pub fn resolve(groups: &[u32], l: Label) -> LabelSet
+    ensures { λ r. ⌜ r ≡ labelSet (now (groups .entry)) l ⌝ }
 {
     match l {
         Label::Range(low, high) => LabelSet {
@@ -49,7 +47,7 @@ pub fn resolve(l: Label) -> LabelSet
             outside: false,
         },
         Label::Group(g) => LabelSet {
-            interval: group(g),
+            interval: group(groups, g),
             outside: false,
         },
         Label::Outside(low, high) => LabelSet {

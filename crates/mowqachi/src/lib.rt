@@ -1,20 +1,23 @@
 // The calls, under the names that the C host uses. Each has no precondition, and its contract is one equation: what it leaves in number,
-// output and working buffer is what document 01's definition gives. Demand 3 (demands/proofs/Demand.antt) is about these outcomes.
+// output and working buffer is what the definition of document 01 or 02 gives. Demand 3 (demands/proofs/Demand.antt) is about these outcomes.
 ghost use mathlib.Core.Path.{_≡_};
 ghost use lib.ListN.{length};
 ghost use Rattle.files.specs.Outcome.{left, leaves};
-ghost use Rattle.site_first.specs.First.{firstReplyCall};
-ghost use Rattle.site_second.specs.Second.{secondReplyCall};
+ghost use Rattle.site_first.specs.First.{firstReplyCall, firstReplyGroupedCall};
+ghost use Rattle.site_second.specs.Second.{secondReplyCall, secondReplyGroupedCall};
 ghost use Rattle.hub_calls.specs.CallList.{callListCall};
 ghost use Rattle.hub_join.specs.Join.{joinCall};
-ghost use Rattle.old.specs.Old.{oldSearchCall};
+ghost use Rattle.old.specs.Old.{oldSearchCall, oldSearchGroupedCall};
 ghost use Rattle.cutter.specs.Cut.{cutCall};
 use cutter::call::cut;
 use hub_calls::call::call_list;
 use hub_join::call::join;
 use old::call::old_search;
+use old::call::old_search_grouped;
 use site_first::call::first_reply;
+use site_first::call::first_reply_grouped;
 use site_second::call::second_reply;
+use site_second::call::second_reply_grouped;
 
 #[no_mangle]
 pub extern "C" fn mowqachi_old_search(
@@ -90,4 +93,50 @@ pub extern "C" fn mowqachi_join(bundle: &[u8], out: &mut [u8], work: &mut [u8]) 
         (length (now (out .entry))) (length (now (work .entry))) ⌝ }
 {
     join(bundle, out, work)
+}
+
+#[no_mangle]
+pub extern "C" fn mowqachi_old_search_grouped(
+    whole: &[u8],
+    groups: &[u8],
+    path: &[u8],
+    out: &mut [u8],
+    work: &mut [u8],
+) -> u32
+    ensures { λ r. ⌜ left r (now (out .exit)) (now (work .exit))
+        ≡ leaves (oldSearchGroupedCall (length (now (out .entry))) (length (now (work .entry))) (now (whole .entry)) (now (groups .entry)) (now (path .entry)))
+        (length (now (out .entry))) (length (now (work .entry))) ⌝ }
+{
+    old_search_grouped(whole, groups, path, out, work)
+}
+
+#[no_mangle]
+pub extern "C" fn mowqachi_first_reply_grouped(
+    part: &[u8],
+    groups: &[u8],
+    path: &[u8],
+    out: &mut [u8],
+    work: &mut [u8],
+) -> u32
+    ensures { λ r. ⌜ left r (now (out .exit)) (now (work .exit))
+        ≡ leaves (firstReplyGroupedCall (length (now (out .entry))) (length (now (work .entry))) (now (part .entry)) (now (groups .entry)) (now (path .entry)))
+        (length (now (out .entry))) (length (now (work .entry))) ⌝ }
+{
+    first_reply_grouped(part, groups, path, out, work)
+}
+
+#[no_mangle]
+pub extern "C" fn mowqachi_second_reply_grouped(
+    part: &[u8],
+    groups: &[u8],
+    path: &[u8],
+    calls: &[u8],
+    out: &mut [u8],
+    work: &mut [u8],
+) -> u32
+    ensures { λ r. ⌜ left r (now (out .exit)) (now (work .exit))
+        ≡ leaves (secondReplyGroupedCall (length (now (out .entry))) (length (now (work .entry))) (now (part .entry)) (now (groups .entry)) (now (path .entry)) (now (calls .entry)))
+        (length (now (out .entry))) (length (now (work .entry))) ⌝ }
+{
+    second_reply_grouped(part, groups, path, calls, out, work)
 }

@@ -1,2 +1,3 @@
 pub mod OldSearch
+pub mod OldCalls
 pub mod RootSearch

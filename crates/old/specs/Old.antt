@@ -1,4 +1,4 @@
--- Believed. The old search over a whole plant.
+-- Believed. The old search over a whole plant, and with the customer's label groups. Document 01; document 02, request 3.
 use Prim.Native.Nat.{ℕ}
 use mathlib.Core.List.{List, map}
 use lib.ListN.{drop}
@@ -8,6 +8,7 @@ use Rattle.files.specs.Refuse.{_then_, roomCheck, sizeCheck}
 use Rattle.files.specs.Outcome.{Outcome, outcome}
 use Rattle.files.specs.Part.{roots, wholeCheck}
 use Rattle.files.specs.Path.{pathCheck}
+use Rattle.files.specs.Groups.{groupsCheck, loaded}
 use Rattle.files.specs.Limits.{partWords, pathWords, finalWords}
 use Rattle.expressions.specs.Labels.{exprOf}
 use Rattle.walks.specs.Product.{answers}
@@ -22,3 +23,12 @@ oldSearchCall out work whole path =
     (roomCheck finalWords out work then sizeCheck partWords whole then wholeCheck (words whole) then sizeCheck pathWords path then pathCheck (words path))
     finalWords
     (listed (words whole) (words path))
+
+-- with the customer's groups: they are checked just before the path, and the list is that of the path with the groups loaded
+unfoldable pub oldSearchGroupedCall : ℕ → ℕ → List ℕ → List ℕ → List ℕ → Outcome
+oldSearchGroupedCall out work whole groups path =
+    outcome
+    (roomCheck finalWords out work then sizeCheck partWords whole then wholeCheck (words whole) then groupsCheck groups
+    then sizeCheck pathWords path then pathCheck (words path))
+    finalWords
+    (listed (words whole) (loaded (words groups) (words path)))

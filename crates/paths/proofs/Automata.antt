@@ -14,21 +14,19 @@ use Rattle.sets.specs.States.{hasState}
 use Rattle.sets.proofs.Cases.{not-known}
 use Rattle.sets.proofs.Tests.{passed, and-iff, le-iff, either}
 use Rattle.sets.proofs.StateSets.{has-pow}
-use Rattle.files.specs.Expr.{labelAt}
 use Rattle.paths.specs.declared.letters.Letters.{Letters}
 use Rattle.paths.specs.declared.operand.Operand.{Operand}
 use Rattle.paths.specs.declared.builder.Builder.{Builder}
 use Rattle.expressions.specs.Expr.{Expr, letters, count}
 use Rattle.expressions.specs.Positions.{nullable, first, last, follow, next, accepts, labelWord}
 use Rattle.expressions.specs.Labels.{between, holds}
-use Rattle.labels.specs.Interval.{contains, labelSet}
+use Rattle.labels.specs.Interval.{contains}
 use Rattle.paths.specs.Operand.{fragmentIn, tableIn}
 use Rattle.paths.specs.Letters.{labelsAt, reads, Labelled}
 use Rattle.paths.specs.Builder.{stackIn, fragmentsIn, followIn}
 use Rattle.paths.specs.Automaton.{readsIn, Finishes}
 use Rattle.expressions.proofs.Ranges.{last-within, follow-within, length-letters}
 use Rattle.expressions.specs.Fragments.{Fragment, Construction, compute, constructionOf, fragmentOf, link}
-use Rattle.labels.proofs.Intervals.{holds-contains}
 use Rattle.paths.proofs.Operands.{has-more}
 
 -- ---- after the last word
@@ -77,8 +75,7 @@ reading-is e l k label p = rw (k .has p, length-letters e) (go p)
         at : T (between 1 (count e) (suc p)) → contains (labelsAt l (suc p)) label ≡ holds (getD (letters e) p 0) label
         at t =
             let y = simp (and-iff, le-iff) at t in
-            let i : labelsAt l (suc p) ≡ labelSet (labelAt (getD (letters e) p 0)) = rw add-one at (k .labels p (omega (arith, length-letters e))) in
-            ap (λ x. contains x label) i ∙ holds-contains (getD (letters e) p 0) label
+            (rw add-one at (k .labels p (omega (arith, length-letters e)))) .same label
 
 pub finish-is : (b : Builder) {whole : Operand} (t : List ℕ) {u : ℕ}
     → tableIn t ≡ link (tableIn (b .rows)) (fragmentIn (record { null = false; begins = 0; ends = 1 })) (fragmentIn whole)

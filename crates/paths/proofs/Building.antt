@@ -1,5 +1,5 @@
 -- What each step of the construction does is what `compute` does. Assumes nothing.
-use mathlib.Core.Path.{_≡_, refl, ap, subst, _∙_, fun-ext}
+use mathlib.Core.Path.{_≡_, refl, sym, ap, subst, _∙_, fun-ext}
 use mathlib.Core.Bool.{false}
 use mathlib.Core.List.{List, [], _∷_, append-nil}
 use Prim.Native.Nat.{ℕ, zero, suc, _+_, _-_, _≤_, _<_}
@@ -11,11 +11,13 @@ use lib.Seq.{getD-set-same, getD-set-other}
 use Rattle.sets.specs.States.{hasState}
 use Rattle.sets.proofs.StateSets.{has-empty}
 use Rattle.files.specs.Limits.{mostWaiting}
-use Rattle.files.specs.Expr.{labelAt, exprAt}
+use Rattle.files.specs.Groups.{load, Ranges}
+use Rattle.files.specs.Expr.{exprAt}
 use Rattle.files.specs.declared.expr.ExprWord.{ExprWord}
 use Rattle.files.specs.declared.expr.ExprWord.the-variants as variants
 use Rattle.files.specs.declared.expr.Label.{Label}
 use Rattle.files.proofs.Exprs.{label-told, operator-told}
+use Rattle.files.proofs.Groups.{load-label}
 use Rattle.labels.specs.declared.interval.LabelSet.{LabelSet}
 use Rattle.paths.specs.declared.letters.Letters.{Letters}
 use Rattle.paths.specs.declared.operand.Operand.{Operand}
@@ -23,7 +25,9 @@ use Rattle.paths.specs.declared.builder.Builder.{Builder}
 use Rattle.expressions.specs.Postfix.{Item, put-empty, put-letter, make-then, make-or, make-star}
 use Rattle.expressions.specs.Labels.{operatorItem, item}
 use Rattle.expressions.specs.Fragments.{emptyFragment, letterFragment, thenFragment, orFragment, starFragment, link, compute}
-use Rattle.labels.specs.Interval.{labelSet}
+use Rattle.labels.specs.Interval.{labelSet, HeldBy}
+use Rattle.expressions.proofs.Loading.{as-operator, unmoved}
+use Rattle.labels.proofs.Intervals.{resolved}
 use Rattle.paths.specs.Operand.{fragmentIn, tableIn}
 use Rattle.paths.specs.Letters.{AddedLabel, Labelled}
 use Rattle.paths.specs.Builder.{stackIn, fragmentsIn, followIn, Starts, Replaced, operandsOf, lettersOf, Applicable, Does}
@@ -107,13 +111,13 @@ pub star-does : {b r : Builder} {o x : Operand} (t : List ℕ) → Replaced b (b
     → Does make-star b (record { operands = r .operands; waiting = r .waiting; rows = t; letters = r .letters })
 star-does {b} t p e k f h = done make-star t refl refl p (λ is ws. rw (k, e, f, top (b .operands) (b .waiting) (h .enough)))
 
-pub label-does : {b r : Builder} {ls : Letters} {s : LabelSet} {l : Label} {o : Operand} → AddedLabel (b .letters) s ls → s ≡ labelSet l
+pub label-does : {b r : Builder} {ls : Letters} {s : LabelSet} {o : Operand} → AddedLabel (b .letters) s ls
     → Replaced b (b .waiting) o r → fragmentIn o ≡ letterFragment (ls .n) → b .letters .n + 1 ≤ 15
-    → (w : ℕ) → l ≡ labelAt w → Does (put-letter w) b (record { operands = r .operands; waiting = r .waiting; rows = r .rows; letters = ls })
-label-does {b} {r} {ls} a f p e h w g =
+    → (w : ℕ) → HeldBy w s → Does (put-letter w) b (record { operands = r .operands; waiting = r .waiting; rows = r .rows; letters = ls })
+label-does {b} {r} {ls} a p e h w g =
     record {
       computes = λ is ws n. rw (p .fragments, p .rows, e, a .count, n);
-      letters = λ ws k. labelled-more w a k (f ∙ ap labelSet g) (omega arith);
+      letters = λ ws k. labelled-more w a k g (omega arith);
       waiting = omega (arith, p .waiting);
       sized = p .sized;
     }
@@ -141,12 +145,15 @@ operator-star (suc zero) a b c = absurd (b refl)
 operator-star (suc (suc zero)) a b c = absurd (c refl)
 operator-star (suc (suc (suc k))) a b c = refl
 
-module _ (w : ℕ) {e : ExprWord} (r : e ≡ exprAt w) where
-  pub word-label : {l : Label} → e ≡ variants.Label l → (put-letter w ≡ item w) × (l ≡ labelAt w)
-  word-label h = let t = label-told w r h in (rw (t .1), t .2)
+module _ (groups : List ℕ) (g : Ranges groups) (w : ℕ) {e : ExprWord} (r : e ≡ exprAt w) where
+  pub word-label : {l : Label} → e ≡ variants.Label l → put-letter (load groups w) ≡ item (load groups w)
+  word-label h = rw (load-label groups g w, label-told w r h .1)
 
-  pub word-operator : {k : ℕ} → e ≡ variants.Operator k → operatorItem k ≡ item w
-  word-operator h = let t = operator-told w r h in rw (t .1, t .2)
+  pub word-held : {l : Label} {s : LabelSet} → e ≡ variants.Label l → s ≡ labelSet groups l → HeldBy (load groups w) s
+  word-held h = let (c, t, k) = label-told w r h in resolved groups g w t (rw t at c) k
+
+  pub word-operator : {k : ℕ} → e ≡ variants.Operator k → operatorItem k ≡ item (load groups w)
+  word-operator h = let (c, t, k) = operator-told w r h in ap operatorItem k ∙ sym (as-operator w t) ∙ ap item (sym (unmoved groups w t))
 
 -- every label word asks the same
 pub applicable-label : {b : Builder} (w : ℕ) → Applicable (put-letter w) b → Applicable (put-letter 0) b

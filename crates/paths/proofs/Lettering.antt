@@ -17,9 +17,8 @@ use Rattle.sets.proofs.StateSets.{has-and, has-xor, has-empty}
 use Rattle.paths.specs.declared.letters.Letters.{Letters}
 use Rattle.labels.specs.declared.interval.Interval.{Interval}
 use Rattle.labels.specs.declared.interval.LabelSet.{LabelSet}
-use Rattle.files.specs.Expr.{labelAt}
 use Rattle.expressions.specs.Labels.{between}
-use Rattle.labels.specs.Interval.{within, labelSet}
+use Rattle.labels.specs.Interval.{within, HeldBy}
 use Rattle.paths.specs.Letters.{intervalAt, labelsAt, reads, AddedLabel, Labelled}
 use Rattle.paths.proofs.Operands.{has-only, has-more}
 
@@ -103,7 +102,7 @@ pub sides-more : (b : Bool) (o t p : ℕ) {u : ℕ} → u ≡ cond b t 0 → ((q
     → (q : ℕ) → hasState (bitOr o u) q ≡ (hasState o q || b && eqb q p)
 sides-more b o t p e f q = has-more b o t e q ∙ rw (f q, has-empty q)
 
-pub labelled-more : {l r : Letters} {s : LabelSet} {ws : List ℕ} (w : ℕ) → AddedLabel l s r → Labelled l ws → s ≡ labelSet (labelAt w) → l .n < 15 → Labelled r (ws ++ w ∷ [])
+pub labelled-more : {l r : Letters} {s : LabelSet} {ws : List ℕ} (w : ℕ) → AddedLabel l s r → Labelled l ws → HeldBy w s → l .n < 15 → Labelled r (ws ++ w ∷ [])
 labelled-more {l} {r} {s} {ws} w a k e h =
     record {
       sixteen = rw (a .intervals, length-set) (k .sixteen);
@@ -119,19 +118,19 @@ labelled-more {l} {r} {s} {ws} w a k e h =
     none : Interval
     none = record { low = 0; high = 0 }
 
-    each : (p : ℕ) → p < length (ws ++ w ∷ []) → labelsAt r (p + 1) ≡ labelSet (labelAt (getD (ws ++ w ∷ []) p 0))
+    each : (p : ℕ) → p < length (ws ++ w ∷ []) → HeldBy (getD (ws ++ w ∷ []) p 0) (labelsAt r (p + 1))
     each p m = rw (a .intervals, a .sides (p + 1), k .count) (⊎-elim old new (lt-or-le p (length ws)))
       where
         -- the labels of position p + 1, where `last` says whether it is the new one
         made : Bool → LabelSet
         made last = record { interval = getD (set (l .intervals) (length ws + 1) (s .interval)) (p + 1) none; outside = hasState (l .outside) (p + 1) || s .outside && last }
 
-        old : p < length ws → made (eqb (p + 1) (length ws + 1)) ≡ labelSet (labelAt (getD (ws ++ w ∷ []) p 0))
+        old : p < length ws → HeldBy (getD (ws ++ w ∷ []) p 0) (made (eqb (p + 1) (length ws + 1)))
         old b =
             rw (getD-set-other (l .intervals) (length ws + 1) (p + 1) (s .interval) none (λ x. omega arith), ne-eqb (p + 1) (length ws + 1) (λ x. omega arith), and-false, or-false, List·getD-append ws (w ∷ []) 0 p b)
             (k .labels p b)
 
-        new : length ws ≤ p → made (eqb (p + 1) (length ws + 1)) ≡ labelSet (labelAt (getD (ws ++ w ∷ []) p 0))
+        new : length ws ≤ p → HeldBy (getD (ws ++ w ∷ []) p 0) (made (eqb (p + 1) (length ws + 1)))
         new b =
             let q : p ≡ length ws = omega (arith, m, one) in
             rw (q, getD-set-same (l .intervals) (length ws + 1) (s .interval) none (omega (arith, k .sixteen, k .count)), eq-eqb (length ws + 1) (length ws + 1) refl, and-true, k .sides (length ws + 1) (omega arith), getD-append-seam ws w [] 0) e

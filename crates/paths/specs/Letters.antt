@@ -6,12 +6,11 @@ use Prim.Native.Nat.{ℕ, _+_, _<_}
 use lib.Dec.{eqb}
 use lib.ListN.{length, getD, set}
 use Rattle.sets.specs.States.{hasState}
-use Rattle.files.specs.Expr.{labelAt}
 use Rattle.labels.specs.declared.interval.Interval.{Interval}
 use Rattle.labels.specs.declared.interval.LabelSet.{LabelSet}
 use Rattle.paths.specs.declared.letters.Letters.{Letters}
 use Rattle.expressions.specs.Labels.{between}
-use Rattle.labels.specs.Interval.{contains, labelSet}
+use Rattle.labels.specs.Interval.{contains, HeldBy}
 
 -- the interval of position p
 abbrev pub intervalAt : Letters → ℕ → Interval
@@ -37,5 +36,5 @@ pub record Labelled (l : Letters) (ws : List ℕ) : Type 0 where
   pub sixteen : length (l .intervals) ≡ 16
   pub count : l .n ≡ length ws
   pub has : (p : ℕ) → hasState (l .positions) p ≡ between 1 (length ws) p
-  pub labels : (p : ℕ) → p < length ws → labelsAt l (p + 1) ≡ labelSet (labelAt (getD ws p 0))
+  pub labels : (p : ℕ) → p < length ws → HeldBy (getD ws p 0) (labelsAt l (p + 1))
   pub sides : (p : ℕ) → length ws < p → hasState (l .outside) p ≡ false

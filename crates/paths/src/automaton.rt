@@ -5,6 +5,7 @@ ghost use lib.ListN.{drop};
 ghost use Rattle.sets.specs.States.{hasState};
 ghost use Rattle.files.specs.Word.{words};
 ghost use Rattle.files.specs.Path.{pathCheck};
+ghost use Rattle.files.specs.Groups.{groupsCheck, loaded};
 ghost use Rattle.expressions.specs.Labels.{exprOf};
 ghost use Rattle.paths.specs.Letters.{reads};
 ghost use Rattle.paths.specs.Automaton.{Automates, Finishes};
@@ -17,6 +18,7 @@ use super::operand::only;
 use super::table::link;
 use files::cursor::Cursor;
 use files::cursor::Step;
+use groups::table::read_groups;
 
 // Row q of `follow` holds the positions that may come next in state q.
 pub struct Automaton {
@@ -45,17 +47,18 @@ fn finish(b: Builder) -> Automaton
     }
 }
 
-// The automaton of an accepted path.
-pub fn position_automaton(path: &[u8]) -> Automaton
-    requires { ⌜ pathCheck (words (now path)) ≡ 0 ⌝ }
-    ensures { λ r. ⌜ Automates r (exprOf (drop 1 (words (now (path .entry))))) ⌝ }
+// The automaton of an accepted path with accepted groups loaded, which are read once.
+pub fn position_automaton(path: &[u8], groups: &[u8]) -> Automaton
+    requires { ⌜ (groupsCheck (now groups) ≡ 0) × (pathCheck (words (now path)) ≡ 0) ⌝ }
+    ensures { λ r. ⌜ Automates r (exprOf (drop 1 (loaded (words (now (groups .entry))) (words (now (path .entry)))))) ⌝ }
 {
+    let g = read_groups(groups);
     let mut b = start();
     let mut cur = Cursor { at: 1 };
     loop {
         match cur.read(path) {
             Step::Word(w, next) => {
-                b = step(b, w);
+                b = step(b, &g, w);
                 cur = next;
             }
             Step::End => {

@@ -4,9 +4,11 @@ ghost use mathlib.Core.Path.{_≡_};
 ghost use Prim.Native.Nat.{ℕ, _<_};
 ghost use lib.ListN.{length};
 ghost use Rattle.files.specs.Limits.{mostWaiting};
-ghost use Rattle.files.specs.Expr.{exprCheck, labelAt};
+ghost use Rattle.files.specs.Groups.{load, Ranges};
+ghost use Rattle.files.specs.Expr.{exprCheck};
 ghost use Rattle.expressions.specs.Postfix.{put-empty, put-letter, make-then, make-or, make-star};
 ghost use Rattle.expressions.specs.Labels.{operatorItem, item};
+ghost use Rattle.labels.specs.Interval.{HeldBy};
 ghost use Rattle.paths.specs.Builder.{Starts, Replaced, Applicable, Does};
 use super::letters::Letters;
 use super::letters::add;
@@ -19,9 +21,9 @@ use super::operand::star;
 use super::operand::then;
 use super::table::link;
 use files::expr::ExprWord;
-use files::expr::Label;
 use files::expr::read_expr;
 use files::limits::MOST_WAITING;
+use labels::interval::LabelSet;
 use labels::interval::resolve;
 
 pub struct Builder {
@@ -66,13 +68,13 @@ fn put_nothing(b: Builder) -> Builder
     place(b, at, empty())
 }
 
-fn put_label(b: Builder, l: Label) -> Builder
+fn put_label(b: Builder, s: LabelSet) -> Builder
     requires { ⌜ Applicable (put-letter 0) b ⌝ }
-    ensures { λ r. ⌜ ((w : ℕ) → l ≡ labelAt w → Does (put-letter w) b r) ⌝ }
+    ensures { λ r. ⌜ ((w : ℕ) → HeldBy w s → Does (put-letter w) b r) ⌝ }
 {
     let at = b.waiting;
     let before = b.letters;
-    let letters = add(before, resolve(l));
+    let letters = add(before, s);
     let mut r = place(b, at, letter(letters.n));
     r.letters = letters;
     r
@@ -130,14 +132,14 @@ fn operate(b: Builder, k: u32) -> Builder
     }
 }
 
-// One word more.
-pub fn step(b: Builder, w: u32) -> Builder
-    requires { ⌜ exprCheck w ≡ 0 ⌝ }
-    requires { ⌜ Applicable (item w) b ⌝ }
-    ensures { λ r. ⌜ Does (item w) b r ⌝ }
+// One word more, with the groups loaded.
+pub fn step(b: Builder, groups: &[u32], w: u32) -> Builder
+    requires { ⌜ Ranges (now groups) × (exprCheck w ≡ 0) ⌝ }
+    requires { ⌜ Applicable (item (load (now groups) w)) b ⌝ }
+    ensures { λ r. ⌜ Does (item (load (now (groups .entry)) w)) b r ⌝ }
 {
     match read_expr(w) {
-        ExprWord::Label(l) => put_label(b, l),
+        ExprWord::Label(l) => put_label(b, resolve(groups, l)),
         ExprWord::Operator(k) => operate(b, k),
         ExprWord::Wrong => b,
     }

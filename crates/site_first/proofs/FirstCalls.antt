@@ -1,15 +1,17 @@
 -- The first reply as a call: its checks, the reply that is written, and the number 15. Assumes nothing.
-use mathlib.Core.Path.{_≡_, sym, _∙_, ap}
+use mathlib.Core.Path.{_≡_, refl, sym, _∙_, ap}
 use mathlib.Core.List.{List}
 use Prim.Native.Nat.{ℕ, _*_, _^_, _%_, _≤_, _<_}
 use native.Mathlib.Omega.{arith}
 use lib.ListN.{length, getD, drop}
 use Rattle.sets.specs.Sets.{Mem}
-use Rattle.files.specs.Word.{bytesOf}
+use Rattle.files.specs.Word.{words, bytesOf}
 use Rattle.files.specs.Field.{siteOf, labelsOf, file}
-use Rattle.files.specs.Outcome.{zeros, outcome}
+use Rattle.files.specs.Refuse.{_then_, roomCheck, sizeCheck}
+use Rattle.files.specs.Outcome.{zeros, outcome, Left, leaves}
 use Rattle.files.specs.Part.{partCheck}
 use Rattle.files.specs.Path.{pathCheck}
+use Rattle.files.specs.Groups.{groupsCheck, loaded, ourGroups}
 use Rattle.files.proofs.Checks.{then-zero, room-checked}
 use Rattle.files.proofs.Words.{words-bytes, size-checked}
 use Rattle.files.proofs.Parts.{part-some}
@@ -18,13 +20,15 @@ use Rattle.expressions.specs.Labels.{exprOf}
 use Rattle.paths.specs.Automaton.{Automates}
 use Rattle.paths.specs.declared.automaton.Automaton.{Automaton}
 use Rattle.expressions.proofs.Paths.{path-count, path-some}
+use Rattle.expressions.proofs.Loading.{ours-same}
 use Rattle.output.specs.Writer.{Writes, Filed}
 use Rattle.output.specs.Frame.{Closes}
 use Rattle.output.proofs.Frame.{filed}
 use Rattle.first_replies.specs.FirstReply.{firstReply}
+use Rattle.first_replies.proofs.Alike.{first-same}
 use Rattle.reporting.proofs.Wording.{words-all}
 use Rattle.reporting.specs.Reporting.{wordsBelow}
-use Rattle.site_first.specs.First.{firstReplyCall}
+use Rattle.site_first.specs.First.{firstReplyCall, firstReplyGroupedCall}
 
 -- ---- the reply
 
@@ -45,13 +49,33 @@ reply-filed part path a {n = n} c read auto f g e i k z q =
 
 -- ---- the call
 
--- written as bytes, an accepted part and path are accepted by the call
+-- written as bytes, an accepted part and path are accepted by the call, with accepted groups
+pub grouped-outcome : (out work : ℕ) (part groups path : List ℕ) → 4 * replyWords ≤ out → workBytes ≤ work
+    → ((w : ℕ) → Mem w part → w < 2 ^ 32) → length part ≤ partWords → partCheck part ≡ 0 → groupsCheck groups ≡ 0
+    → ((w : ℕ) → Mem w path → w < 2 ^ 32) → length path ≤ pathWords → pathCheck path ≡ 0
+    → firstReplyGroupedCall out work (bytesOf part) groups (bytesOf path) ≡ outcome 0 replyWords (firstReply part (loaded (words groups) path))
+unfolding firstReplyGroupedCall
+grouped-outcome out work part groups path h k v l p g w m a =
+    rw (words-bytes part v, words-bytes path w) (ap (λ c. outcome c replyWords (firstReply part (loaded (words groups) path)))
+    (then-zero (room-checked replyWords out work h k) (then-zero (size-checked partWords part (part-some part p) l)
+    (then-zero p (then-zero g (then-zero (size-checked pathWords path (path-some path a) m) a))))))
+
+-- Document 02: "With our eight words loaded every result is today's." For all bytes and all buffer lengths.
+pub first-ours : (out work : ℕ) (part path : List ℕ) → firstReplyGroupedCall out work part (bytesOf ourGroups) path ≡ firstReplyCall out work part path
+unfolding firstReplyGroupedCall firstReplyCall
+first-ours out work part path =
+    ap (outcome (roomCheck replyWords out work then sizeCheck partWords part then partCheck (words part) then sizeCheck pathWords path then pathCheck (words path)) replyWords)
+    (first-same (words part) (ours-same (words path)))
+
+-- for the call without groups: g is the value that it hands in
+pub first-plain : (n m : ℕ) (part path : List ℕ) {g : List ℕ} {l : Left} → g ≡ bytesOf ourGroups → l ≡ leaves (firstReplyGroupedCall n m part g path) n m
+    → l ≡ leaves (firstReplyCall n m part path) n m
+first-plain n m part path e h = h ∙ ap (λ g. leaves (firstReplyGroupedCall n m part g path) n m) e ∙ ap (λ o. leaves o n m) (first-ours n m part path)
+
 pub first-outcome : (out work : ℕ) (part path : List ℕ) → 4 * replyWords ≤ out → workBytes ≤ work
     → ((w : ℕ) → Mem w part → w < 2 ^ 32) → length part ≤ partWords → partCheck part ≡ 0
     → ((w : ℕ) → Mem w path → w < 2 ^ 32) → length path ≤ pathWords → pathCheck path ≡ 0
     → firstReplyCall out work (bytesOf part) (bytesOf path) ≡ outcome 0 replyWords (firstReply part path)
-unfolding firstReplyCall
 first-outcome out work part path h k v l p w m a =
-    rw (words-bytes part v, words-bytes path w) (ap (λ c. outcome c replyWords (firstReply part path))
-    (then-zero (room-checked replyWords out work h k) (then-zero (size-checked partWords part (part-some part p) l)
-    (then-zero p (then-zero (size-checked pathWords path (path-some path a) m) a)))))
+    sym (first-ours out work (bytesOf part) (bytesOf path)) ∙ grouped-outcome out work part (bytesOf ourGroups) path h k v l p refl w m a
+    ∙ ap (outcome 0 replyWords) (first-same part (ours-same path))

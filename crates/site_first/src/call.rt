@@ -1,4 +1,4 @@
-// The first reply, as a call.
+// The first reply, as a call, with groups and without.
 ghost use mathlib.Core.Path.{_≡_};
 ghost use mathlib.Core.List.{[], _∷_};
 ghost use lib.ListN.{length};
@@ -6,16 +6,19 @@ ghost use Rattle.files.specs.Word.{words};
 ghost use Rattle.files.specs.Outcome.{left, leaves};
 ghost use Rattle.files.specs.Part.{partCheck};
 ghost use Rattle.files.specs.Path.{pathCheck};
+ghost use Rattle.files.specs.Groups.{groupsCheck, loaded};
 ghost use Rattle.files.specs.Limits.{partWords, pathWords, replyWords};
 ghost use Rattle.output.specs.Writer.{Filed};
-ghost use Rattle.output.specs.Frame.{input, Checked, Passed, Responds};
+ghost use Rattle.output.specs.Frame.{input, also, Checked, Passed, Responds};
 ghost use Rattle.first_replies.specs.FirstReply.{firstReply};
-ghost use Rattle.site_first.specs.First.{firstReplyCall};
+ghost use Rattle.site_first.specs.First.{firstReplyCall, firstReplyGroupedCall};
 use files::buffer::clear;
 use files::field::site;
 use files::limits::REPLY_WORDS;
 use files::refuse::check_room;
 use files::word::word_at;
+use groups::table::check_groups;
+use groups::table::our_groups;
 use output::close::close;
 use output::settle::settle;
 use paths::automaton::position_automaton;
@@ -24,10 +27,10 @@ use queries::path::check_path;
 use readers::part::check_part;
 use reporting::reporting::report_doors;
 
-// The number of the first check that fails: the buffers, the part, the path.
-fn check(part: &[u8], path: &[u8], out: usize, work: usize) -> u32
+// The number of the first check that fails: the buffers, the part, the groups, the path.
+fn check(part: &[u8], groups: &[u8], path: &[u8], out: usize, work: usize) -> u32
     ensures { λ r. ⌜ Checked replyWords out work
-        (input partWords (now (part .entry)) (partCheck (words (now (part .entry)))) ∷ input pathWords (now (path .entry)) (pathCheck (words (now (path .entry)))) ∷ []) r ⌝ }
+        (input partWords (now (part .entry)) (partCheck (words (now (part .entry)))) ∷ also (groupsCheck (now (groups .entry))) ∷ input pathWords (now (path .entry)) (pathCheck (words (now (path .entry)))) ∷ []) r ⌝ }
 {
     let room = check_room(REPLY_WORDS, out, work);
     if room != 0 {
@@ -37,16 +40,20 @@ fn check(part: &[u8], path: &[u8], out: usize, work: usize) -> u32
     if n != 0 {
         return n;
     }
+    let g = check_groups(groups);
+    if g != 0 {
+        return g;
+    }
     check_path(path)
 }
 
 // Writes the reply, as far as it fits. Gives 15 where it is over its limit, and only then.
-fn write(part: &[u8], path: &[u8], out: &mut [u8], work: &mut [u8]) -> u32
+fn write(part: &[u8], groups: &[u8], path: &[u8], out: &mut [u8], work: &mut [u8]) -> u32
     requires { ⌜ Passed replyWords (length (now out)) (length (now work))
-        (input partWords (now part) (partCheck (words (now part))) ∷ input pathWords (now path) (pathCheck (words (now path))) ∷ []) ⌝ }
-    ensures { λ r. ⌜ Filed replyWords (length (now (out .entry))) (firstReply (words (now (part .entry))) (words (now (path .entry)))) (now (out .exit)) r ⌝ }
+        (input partWords (now part) (partCheck (words (now part))) ∷ also (groupsCheck (now groups)) ∷ input pathWords (now path) (pathCheck (words (now path))) ∷ []) ⌝ }
+    ensures { λ r. ⌜ Filed replyWords (length (now (out .entry))) (firstReply (words (now (part .entry))) (loaded (words (now (groups .entry))) (words (now (path .entry))))) (now (out .exit)) r ⌝ }
 {
-    let a = position_automaton(path);
+    let a = position_automaton(path, groups);
     let outside = prepare(part, a, work);
     let follow = a.follow;
     let n = a.letters.n;
@@ -57,23 +64,39 @@ fn write(part: &[u8], path: &[u8], out: &mut [u8], work: &mut [u8]) -> u32
 }
 
 // The reply, or the number of the check that refuses.
-fn answer(part: &[u8], path: &[u8], out: &mut [u8], work: &mut [u8]) -> u32
-    ensures { λ r. ⌜ Responds (firstReplyCall (length (now (out .entry))) (length (now (work .entry))) (now (part .entry)) (now (path .entry)))
+fn answer(part: &[u8], groups: &[u8], path: &[u8], out: &mut [u8], work: &mut [u8]) -> u32
+    ensures { λ r. ⌜ Responds (firstReplyGroupedCall (length (now (out .entry))) (length (now (work .entry))) (now (part .entry)) (now (groups .entry)) (now (path .entry)))
         (length (now (out .entry))) (now (out .exit)) r ⌝ }
 {
-    let n = check(part, path, out.len(), work.len());
+    let n = check(part, groups, path, out.len(), work.len());
     if n != 0 {
         return n;
     }
-    write(part, path, out, work)
+    write(part, groups, path, out, work)
 }
 
-// The call.
+// The call, with the customer's groups.
+pub fn first_reply_grouped(
+    part: &[u8],
+    groups: &[u8],
+    path: &[u8],
+    out: &mut [u8],
+    work: &mut [u8],
+) -> u32
+    ensures { λ r. ⌜ left r (now (out .exit)) (now (work .exit))
+        ≡ leaves (firstReplyGroupedCall (length (now (out .entry))) (length (now (work .entry))) (now (part .entry)) (now (groups .entry)) (now (path .entry)))
+        (length (now (out .entry))) (length (now (work .entry))) ⌝ }
+{
+    let number = answer(part, groups, path, out, work);
+    settle(number, out, work)
+}
+
+// Without groups: the same with our own.
 pub fn first_reply(part: &[u8], path: &[u8], out: &mut [u8], work: &mut [u8]) -> u32
     ensures { λ r. ⌜ left r (now (out .exit)) (now (work .exit))
         ≡ leaves (firstReplyCall (length (now (out .entry))) (length (now (work .entry))) (now (part .entry)) (now (path .entry)))
         (length (now (out .entry))) (length (now (work .entry))) ⌝ }
 {
-    let number = answer(part, path, out, work);
-    settle(number, out, work)
+    let ours = our_groups();
+    first_reply_grouped(part, &ours, path, out, work)
 }

@@ -1,2 +1,3 @@
 pub mod SecondReplies
+pub mod SecondCalls
 pub mod Replying

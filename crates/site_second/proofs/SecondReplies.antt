@@ -1,38 +1,32 @@
 -- A site's second reply, of an accepted part: it is an accepted file, no longer than the part, and its answers are nodes of the part,
 -- ascending. Assumes nothing.
-use mathlib.Core.Path.{_≡_, refl, ap}
-use mathlib.Core.List.{List, [], _∷_, map, Memᴰ·of-map}
-use Prim.Native.Nat.{ℕ, _*_, _^_, _≤_, _<_}
+use mathlib.Core.Path.{_≡_, refl}
+use mathlib.Core.List.{List, _∷_, map, Memᴰ·of-map}
+use Prim.Native.Nat.{ℕ, _^_, _≤_, _<_}
 use native.Mathlib.Omega.{arith}
 use lib.Dec.{T}
 use lib.ListN.{length, getD, drop, length-map, length-drop}
-use Rattle.sets.specs.Sets.{Mem, Ascending, Lists, member, _⊆_}
+use Rattle.sets.specs.Sets.{Mem, Ascending, Lists, _⊆_}
 use Rattle.sets.specs.Reach.{Reach, seed}
-use Rattle.sets.proofs.Sets.{member-iff, lists-iff, made-unique}
-use Rattle.sets.proofs.Filter.{all-iff}
+use Rattle.sets.proofs.Sets.{lists-iff, made-unique}
 use Rattle.files.specs.Field.{siteOf, labelsOf, pair, pairOf, pairNode, pairState, file, answerWord}
-use Rattle.files.specs.Word.{bytesOf}
-use Rattle.files.specs.Outcome.{outcome}
-use Rattle.files.specs.Part.{nodes, doors, stopped, running, partCheck}
+use Rattle.files.specs.Part.{nodes, stopped, running, partCheck}
 use Rattle.files.specs.Path.{pathCheck}
-use Rattle.files.specs.Calls.{callsCheck}
 use Rattle.files.specs.Answers.{answersOf, answersCheck}
-use Rattle.files.proofs.Checks.{checks, then-zero, room-checked}
-use Rattle.files.proofs.Words.{words-bytes, size-checked}
 use Rattle.files.proofs.Fields.{answer, labels-below, site-below, pair-node, pair-state, pair-eta}
 use Rattle.files.proofs.Blocks.{node-small, running-iff}
 use Rattle.files.proofs.Parts.{part-some, nodes-ascending}
 use Rattle.files.proofs.Ordered.{answers-accepted, answers-read}
 use Rattle.files.proofs.Files.{Made, file-made}
-use Rattle.files.specs.Limits.{partWords, pathWords, replyWords, workBytes}
+use Rattle.files.specs.Limits.{partWords}
 use Rattle.expressions.specs.Expr.{Expr, count}
 use Rattle.expressions.specs.Positions.{accepts}
 use Rattle.expressions.specs.Labels.{exprOf}
-use Rattle.expressions.proofs.Paths.{path-small, path-some}
+use Rattle.expressions.proofs.Paths.{path-small}
 use Rattle.walks.specs.Product.{Walk, stepIn, answers}
 use Rattle.walks.proofs.Product.{accepts-small, walk-end, walk-reach, reach-walk, answers-lists, answers-nodes, answers-ascending, answers-length}
 pub use Rattle.site_calls.proofs.Calling.{called-iff}
-use Rattle.site_second.specs.Second.{IsSecondReply, calledIn, secondReply, againstCheck, secondReplyCall}
+use Rattle.site_second.specs.Second.{IsSecondReply, calledIn, secondReply}
 
 -- the nodes that the reply lists
 abbrev pub found : List ℕ → List ℕ → List ℕ → List ℕ
@@ -121,32 +115,3 @@ module _ (part path calls : List ℕ) (p : partCheck part ≡ 0) where
 -- there is one second reply
 pub second-unique : (part path calls : List ℕ) {f g : List ℕ} → IsSecondReply part path calls f → IsSecondReply part path calls g → f ≡ g
 second-unique part path calls = made-unique (λ xs. file 13 (siteOf (getD part 0 0)) (labelsOf (getD path 0 0)) (map answerWord xs))
-
--- The call
-
--- a call list with the path's n, in which only doors of the part are called among its nodes
-pub against-checked : (part path calls : List ℕ) → labelsOf (getD calls 0 0) ≡ labelsOf (getD path 0 0)
-    → ((c : ℕ) → Mem c (map pairOf (drop 1 calls)) → Mem (pairNode c) (nodes (drop 1 part)) → Mem (pairNode c) (doors (drop 1 part)))
-    → againstCheck part path calls ≡ 0
-against-checked part path calls l d = simp checks (
-  l,
-  all-iff (λ c. member (pairNode c) (doors (drop 1 part))) (calledIn (drop 1 part) (drop 1 calls)) .1 (λ c m.
-      let i = called-iff (drop 1 part) (drop 1 calls) c .0 m in
-      member-iff (pairNode c) (doors (drop 1 part)) .1 (d c (i .0) (i .1))),
-)
-
-calls-some : (calls : List ℕ) → callsCheck calls ≡ 0 → 0 < length calls
-calls-some [] e = absurd (omega arith)
-calls-some (h ∷ ws) e = omega arith
-
--- written as bytes, an accepted part, path and call list are accepted by the call
-pub second-outcome : (out work : ℕ) (part path calls : List ℕ) → 4 * replyWords ≤ out → workBytes ≤ work
-    → ((w : ℕ) → Mem w part → w < 2 ^ 32) → length part ≤ partWords → partCheck part ≡ 0
-    → ((w : ℕ) → Mem w path → w < 2 ^ 32) → length path ≤ pathWords → pathCheck path ≡ 0
-    → ((w : ℕ) → Mem w calls → w < 2 ^ 32) → length calls ≤ replyWords → callsCheck calls ≡ 0 → againstCheck part path calls ≡ 0
-    → secondReplyCall out work (bytesOf part) (bytesOf path) (bytesOf calls) ≡ outcome 0 replyWords (secondReply part path calls)
-unfolding secondReplyCall
-second-outcome out work part path calls h k v l p w m a u s c g =
-    rw (words-bytes part v, words-bytes path w, words-bytes calls u) (ap (λ c. outcome c replyWords (secondReply part path calls))
-    (then-zero (room-checked replyWords out work h k) (then-zero (size-checked partWords part (part-some part p) l) (then-zero p
-    (then-zero (size-checked pathWords path (path-some path a) m) (then-zero a (then-zero (size-checked replyWords calls (calls-some calls c) s) (then-zero c g))))))))

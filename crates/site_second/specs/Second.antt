@@ -1,4 +1,4 @@
--- Believed. A site's second reply. Document 01, "Second reply".
+-- Believed. A site's second reply, as a call, and as a call with the customer's label groups. Document 01, "Second reply"; document 02, request 3.
 use Prim.Native.Nat.{ℕ}
 use mathlib.Core.Path.{_≡_}
 use mathlib.Core.List.{List, map}
@@ -11,6 +11,7 @@ use Rattle.files.specs.Refuse.{_then_, roomCheck, sizeCheck}
 use Rattle.files.specs.Outcome.{Outcome, outcome}
 use Rattle.files.specs.Part.{nodes, partCheck}
 use Rattle.files.specs.Path.{pathCheck}
+use Rattle.files.specs.Groups.{groupsCheck, loaded}
 use Rattle.files.specs.Calls.{callsCheck}
 use Rattle.files.specs.Limits.{partWords, pathWords, replyWords}
 use Rattle.expressions.specs.Expr.{Expr}
@@ -45,3 +46,13 @@ secondReplyCall out work part path calls =
     then sizeCheck replyWords calls then callsCheck (words calls) then againstCheck (words part) (words path) (words calls))
     replyWords
     (secondReply (words part) (words path) (words calls))
+
+-- with the customer's groups: they are checked just before the path, and the reply is that of the path with the groups loaded
+unfoldable pub secondReplyGroupedCall : ℕ → ℕ → List ℕ → List ℕ → List ℕ → List ℕ → Outcome
+secondReplyGroupedCall out work part groups path calls =
+    outcome
+    (roomCheck replyWords out work then sizeCheck partWords part then partCheck (words part) then groupsCheck groups
+    then sizeCheck pathWords path then pathCheck (words path)
+    then sizeCheck replyWords calls then callsCheck (words calls) then againstCheck (words part) (words path) (words calls))
+    replyWords
+    (secondReply (words part) (loaded (words groups) (words path)) (words calls))

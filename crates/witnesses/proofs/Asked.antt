@@ -34,6 +34,7 @@ use Rattle.table.specs.Table.{whole, path, part0, part1, calls, second0, second
 use Rattle.files.specs.Cuts.{cutCheck}
 use Rattle.demands.specs.Plant.{Words, body}
 use Rattle.demands.specs.PlantOf.{plantOf, partsOf}
+use Rattle.demands.specs.Grouped.{Groups, ours, AcceptedGroups, asks}
 use Rattle.demands.specs.Question.{Buffers, Room, going, ask}
 use Rattle.demands.specs.Demand.{Asked, Put, SmallBundles, Claim, Enough, question}
 use Rattle.demands.proofs.PlantOf.{plant-one-root, plant-closed}
@@ -53,6 +54,8 @@ asked f cuts p word few c site d path-word path-short path-read = record {
   some-part = some-part (plant-one-root f c) (true-cut f cuts c site d word few);
   few-parts = few-parts (true-cut f cuts c site d word few);
   cut = true-cut f cuts c site d word few;
+  groups = ours;
+  groups-accepted = tt;
   path = p;
   path-accepted = (path-word, path-short, path-read);
 }
@@ -117,6 +120,22 @@ asked-by-test f cuts p t =
     let ((((u, few), c), d), ((v, short), r)) = simp (and-iff, le-iff, eq-iff) at t in
     asked f cuts p (words-by-test f u) few c 0 d (words-by-test p v) short r
 
+-- a question may be put with any accepted groups: the givens with these
+abbrev pub regrouped : (q : Asked) (groups : Groups) → AcceptedGroups groups → Asked
+regrouped q groups ok = record {
+  plant = q .plant;
+  one-root = q .one-root;
+  closed = q .closed;
+  parts = q .parts;
+  some-part = q .some-part;
+  few-parts = q .few-parts;
+  cut = q .cut;
+  groups = groups;
+  groups-accepted = ok;
+  path = q .path;
+  path-accepted = q .path-accepted;
+}
+
 -- document 01's end-to-end files
 abbrev pub example : Asked
 example = asked-by-test whole (0 ∷ 1 ∷ 0 ∷ []) path tt
@@ -163,7 +182,7 @@ two-small q u few = record {
   second = λ n. omega (
     arith,
     small (secondOf q (list q u)) (u .order′) (perm-length (u .once′)) (λ f m.
-        let k = q .cut .part f (perm-same (u .once′) .0 f m) in omega (arith, second-length f (q .path) (list q u) (k .2), k .1)),
+        let k = q .cut .part f (perm-same (u .once′) .0 f m) in omega (arith, second-length f (asks (q .groups) (q .path)) (list q u) (k .2), k .1)),
   );
 }
   where

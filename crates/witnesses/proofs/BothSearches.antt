@@ -3,10 +3,8 @@ use mathlib.Core.Path.{_≡_}
 use mathlib.Core.List.{List, [], _∷_, map}
 use Prim.Native.Nat.{ℕ, _+_}
 use Rattle.files.specs.Outcome.{accepted}
-use Rattle.site_first.specs.First.{firstReplyCall}
-use Rattle.site_second.specs.Second.{secondReplyCall}
-use Rattle.old.specs.Old.{oldSearchCall}
 use Rattle.demands.specs.PlantOf.{partsOf}
+use Rattle.demands.specs.Grouped.{Groups, ours, firstCall, secondCall, oldCall}
 use Rattle.demands.specs.Question.{Asking, Answer, going, stopped, ask}
 use Rattle.table.specs.Table.{part0, part1, first0, first1, calls, second0, second1, b}
 use Rattle.witnesses.proofs.Asked.{exampleRoom}
@@ -24,18 +22,25 @@ joinedList (going a) = a .final
 joinedList (stopped by k) = []
 
 -- a path that gives document 01's own files, both replies of both its sites
-abbrev pub OwnFiles : List ℕ → Type 0
-OwnFiles path =
-    (firstReplyCall 16384 32768 (b part0) (b path) ≡ accepted first0)
-    × (firstReplyCall 16384 32768 (b part1) (b path) ≡ accepted first1)
-    × (secondReplyCall 16384 32768 (b part0) (b path) (b calls) ≡ accepted second0)
-    × (secondReplyCall 16384 32768 (b part1) (b path) (b calls) ≡ accepted second1)
+abbrev pub OwnFilesBy : Groups → List ℕ → Type 0
+OwnFilesBy groups path =
+    (firstCall groups 16384 32768 (b part0) (b path) ≡ accepted first0)
+    × (firstCall groups 16384 32768 (b part1) (b path) ≡ accepted first1)
+    × (secondCall groups 16384 32768 (b part0) (b path) (b calls) ≡ accepted second0)
+    × (secondCall groups 16384 32768 (b part1) (b path) (b calls) ≡ accepted second1)
 
 -- both searches give the list: the old one of the whole, the new one of the parts that the cutter makes of it
-abbrev pub BothGive : (whole cuts path list : List ℕ) → Type 0
-BothGive whole cuts path list =
+abbrev pub BothGiveBy : Groups → (whole cuts path list : List ℕ) → Type 0
+BothGiveBy groups whole cuts path list =
     let parts = map b (partsOf whole cuts) in
-    (oldSearchCall 32768 32768 (b whole) (b path) ≡ accepted list) × (joinedList (ask exampleRoom (b path) parts parts) ≡ b list)
+    (oldCall groups 32768 32768 (b whole) (b path) ≡ accepted list) × (joinedList (ask groups exampleRoom (b path) parts parts) ≡ b list)
+
+-- by the calls without groups
+abbrev pub OwnFiles : List ℕ → Type 0
+OwnFiles path = OwnFilesBy ours path
+
+abbrev pub BothGive : (whole cuts path list : List ℕ) → Type 0
+BothGive whole cuts path list = BothGiveBy ours whole cuts path list
 
 -- the second node's site is another one, or all three are on one
 abbrev pub apart : List ℕ

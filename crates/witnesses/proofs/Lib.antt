@@ -7,3 +7,4 @@ pub mod BothSearches
 pub mod StoppedNodes
 pub mod OutsideLabels
 pub mod WaitingOperands
+pub mod CustomerGroups

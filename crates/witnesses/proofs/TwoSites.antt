@@ -16,6 +16,7 @@ use Rattle.files.specs.Part.{isEdge, nodes, roots, doors, partCheck}
 use Rattle.files.proofs.Blocks.{edge-of, doors-nodes}
 use Rattle.demands.specs.Plant.{Plant, OneRoot, Closed, HasEdge, AcceptedPart, TrueCut, body}
 use Rattle.demands.specs.PlantOf.{plantOfParts}
+use Rattle.demands.specs.Grouped.{ours}
 use Rattle.demands.specs.Demand.{AcceptedPath, Asked}
 use Rattle.demands.proofs.PlantOf.{parts-cut}
 use Rattle.demands.proofs.Cutter.{some-part, few-parts}
@@ -116,6 +117,8 @@ module _ (left right : List ℕ) {mid high root : ℕ} {rooted rooted′ offered
     some-part = some-part two-root two-cut;
     few-parts = few-parts two-cut;
     cut = two-cut;
+    groups = ours;
+    groups-accepted = tt;
     path = path;
     path-accepted = ok;
   }

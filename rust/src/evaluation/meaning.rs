@@ -25,7 +25,7 @@ fn links_of(path: &Path, links: &Links) -> Vec<Relation> {
         let mut relation = Relation::none(links.len());
         for (source, out) in links.iter().enumerate() {
             for (label, target) in out {
-                if path.label(position).holds(*label) {
+                if path.holds(position, *label) {
                     relation.add(source, *target);
                 }
             }
@@ -99,8 +99,8 @@ impl<'a> Flow<'a> {
         match expression {
             Expression::Empty => self.end(rest, node),
             Expression::Label(position) => {
-                let (label, links) = (self.path.label(*position), self.links);
-                for (_, target) in links[node].iter().filter(|link| label.holds(link.0)) {
+                let (path, links) = (self.path, self.links);
+                for (_, target) in links[node].iter().filter(|link| path.holds(*position, link.0)) {
                     self.end(rest, *target);
                 }
             }

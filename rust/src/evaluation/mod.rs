@@ -1,7 +1,8 @@
-//! Document 01 evaluated, with labels outside a range (request 1), stopped nodes (request 7) and eight operands waiting at most (request 9):
-//! every call as a function from bytes and buffer lengths to a refusal or the result's words. It is written from the documents alone, for
-//! plainness and not for speed, and shares no method with the library where they leave a choice.
+//! Document 01 evaluated, with labels outside a range (request 1), groups that a call is handed (request 3), stopped nodes (request 7) and
+//! eight operands waiting at most (request 9): every call as a function from bytes and buffer lengths to a refusal or the result's words. It
+//! is written from the documents alone, for plainness and not for speed, and shares no method with the library where they leave a choice.
 
+pub mod groups;
 pub mod hub;
 pub mod meaning;
 pub mod part;
@@ -12,9 +13,10 @@ pub mod replies;
 pub mod states;
 pub mod words;
 
+use self::groups::read_groups;
 use self::hub::*;
 use self::part::*;
-use self::path::read_path;
+use self::path::{read_path, Path};
 use self::plant::Plant;
 use self::replies::*;
 use self::words::*;
@@ -52,10 +54,16 @@ fn input<T>(name: &'static str, read: Result<T, Refusal>) -> Result<T, Refusal> 
     read.map_err(|refusal| refusal.of(name))
 }
 
-pub fn old_search(whole: &[u8], path: &[u8], room: Room) -> Outcome {
+/// Groups, if the call is handed any, and then the path that they are for.
+fn groups_and_path(groups: Option<&[u8]>, path: &[u8]) -> Result<Path, Refusal> {
+    let groups = input("groups", read_groups(groups))?;
+    input("path", read_path(path, &groups))
+}
+
+pub fn old_search(whole: &[u8], groups: Option<&[u8]>, path: &[u8], room: Room) -> Outcome {
     check_room(room, BUNDLE_LIMIT)?;
     let whole = input("whole", read_whole(whole))?;
-    let path = input("path", read_path(path))?;
+    let path = groups_and_path(groups, path)?;
     check_result(Plant::of(&whole).search(&path), BUNDLE_LIMIT)
 }
 
@@ -66,10 +74,10 @@ pub fn cut(whole: &[u8], cuts: &[u8], site: u32, room: Room) -> Outcome {
     check_result(cut_part(&whole, cuts, site).words(), FILE_LIMIT)
 }
 
-pub fn first_reply(part: &[u8], path: &[u8], room: Room) -> Outcome {
+pub fn first_reply(part: &[u8], groups: Option<&[u8]>, path: &[u8], room: Room) -> Outcome {
     check_room(room, FILE_LIMIT)?;
     let part = input("part", read_part(part))?;
-    let path = input("path", read_path(path))?;
+    let path = groups_and_path(groups, path)?;
     check_result(first_reply_words(&part, &path), FILE_LIMIT)
 }
 
@@ -79,10 +87,10 @@ pub fn call_list(bundle: &[u8], room: Room) -> Outcome {
     check_result(call_list_words(&files), FILE_LIMIT)
 }
 
-pub fn second_reply(part: &[u8], path: &[u8], calls: &[u8], room: Room) -> Outcome {
+pub fn second_reply(part: &[u8], groups: Option<&[u8]>, path: &[u8], calls: &[u8], room: Room) -> Outcome {
     check_room(room, FILE_LIMIT)?;
     let part = input("part", read_part(part))?;
-    let path = input("path", read_path(path))?;
+    let path = groups_and_path(groups, path)?;
     let (n, calls) = input("call list", read_call_list(calls))?;
     if n != path.n() {
         return input("call list", refuse(12, "n not the path's"));

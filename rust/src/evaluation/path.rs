@@ -1,5 +1,6 @@
 //! Paths: label words, and the expression as a tree.
 
+use super::groups::Groups;
 use super::words::*;
 
 /// At most eight operands wait at any word.
@@ -13,16 +14,13 @@ pub enum LabelWord {
     Outside { low: u32, high: u32 },
 }
 
-const GROUPS: [(u32, u32); 8] =
-    [(0, 4095), (0, 1023), (0, 255), (1024, 1535), (1536, 1791), (1792, 2047), (2048, 3071), (4032, 4095)];
-
 impl LabelWord {
-    pub fn holds(&self, label: u32) -> bool {
+    fn holds(&self, groups: &Groups, label: u32) -> bool {
         match *self {
             LabelWord::Range { low, high } => low <= label && label <= high,
             LabelWord::Group(group) => {
-                let (low, high) = GROUPS[group as usize];
-                low <= label && label <= high
+                let word = groups[group as usize];
+                bits(word, 11, 0) <= label && label <= bits(word, 23, 12)
             }
             LabelWord::Outside { low, high } => label < low || high < label,
         }
@@ -41,7 +39,8 @@ pub enum Expression {
 
 #[derive(Clone, Debug)]
 pub struct Path {
-    pub labels: Vec<LabelWord>,
+    labels: Vec<LabelWord>,
+    groups: Groups,
     pub expression: Expression,
 }
 
@@ -50,9 +49,9 @@ impl Path {
         self.labels.len()
     }
 
-    /// Position 1 to n.
-    pub fn label(&self, position: usize) -> LabelWord {
-        self.labels[position - 1]
+    /// Whether the label word of a position, 1 to n, holds a label.
+    pub fn holds(&self, position: usize, label: u32) -> bool {
+        self.labels[position - 1].holds(&self.groups, label)
     }
 }
 
@@ -96,12 +95,13 @@ fn operator(word: u32, waiting: &mut Vec<Expression>) -> Result<(), Refusal> {
 /// Whether a word may stand with so many operands waiting before it, and so many after it.
 pub type MayStand = fn(usize, usize) -> bool;
 
-pub fn read_path(bytes: &[u8]) -> Result<Path, Refusal> {
-    read_path_by(bytes, |_, after| after <= MOST_WAITING)
+/// A path whose group words are read by these groups.
+pub fn read_path(bytes: &[u8], groups: &Groups) -> Result<Path, Refusal> {
+    read_path_by(bytes, groups, |_, after| after <= MOST_WAITING)
 }
 
 /// A path by another rule of how many operands wait, for the mistakes.
-pub fn read_path_by(bytes: &[u8], may_stand: MayStand) -> Result<Path, Refusal> {
+pub fn read_path_by(bytes: &[u8], groups: &Groups, may_stand: MayStand) -> Result<Path, Refusal> {
     let (header, words) = single_file(bytes, PATH_LIMIT, PATH)?;
     let mut labels = vec![];
     let mut waiting = vec![];
@@ -125,5 +125,5 @@ pub fn read_path_by(bytes: &[u8], may_stand: MayStand) -> Result<Path, Refusal> 
     if labels.len() != header.n as usize {
         return refuse(9, "label words not n");
     }
-    Ok(Path { labels, expression: waiting.remove(0) })
+    Ok(Path { labels, groups: *groups, expression: waiting.remove(0) })
 }

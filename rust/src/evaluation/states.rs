@@ -47,6 +47,6 @@ impl States {
     /// The states to which `q` steps on a label.
     pub fn after<'a>(&'a self, path: &'a Path, q: usize, label: u32) -> impl Iterator<Item = usize> + 'a {
         let may = move |p: &usize| self.steps[q * (self.n + 1) + p];
-        (1..=self.n).filter(may).filter(move |p| path.label(*p).holds(label))
+        (1..=self.n).filter(may).filter(move |p| path.holds(*p, label))
     }
 }

@@ -39,6 +39,8 @@ pub const FILE_LIMIT: usize = 4096;
 /// Words of a bundle, a final list.
 pub const BUNDLE_LIMIT: usize = 8192;
 pub const PATH_LIMIT: usize = 64;
+/// Just so many words are groups.
+pub const GROUP_COUNT: usize = 8;
 pub const WORK_BYTES: usize = 32_768;
 
 /// Bits `high` to `low` of a word, both included.

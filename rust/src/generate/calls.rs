@@ -1,7 +1,8 @@
 //! Random calls: inputs that are accepted, and damaged ones.
 
-use super::{bundle, damage, path, plant};
+use super::{bundle, damage, groups, path, plant};
 use crate::beside::Call;
+use crate::evaluation::groups::{Groups, OURS};
 use crate::evaluation::part::{Node, Part};
 use crate::evaluation::plant::Plant;
 use crate::evaluation::replies::first_reply_words;
@@ -25,14 +26,17 @@ fn single(random: &mut Random, words: &[u32], limit: usize, damage: bool) -> Vec
     }
 }
 
-fn old_search(random: &mut Random) -> Call {
+fn old_search(random: &mut Random, grouped: bool) -> Call {
     let alphabet = path::alphabet(random);
     let plant = plant::any_plant(random, &alphabet);
     let whole = plant::whole(random, &plant).words();
     let path = path::some_path(random, &alphabet);
-    let damages = damages(random, 2);
+    let (groups, path) = groups::grouped(random, &alphabet, path, grouped);
+    let damages = damages(random, 2 + usize::from(grouped));
     let whole = single(random, &whole, FILE_LIMIT, damages & 1 != 0);
-    Call::OldSearch { whole, path: single(random, &path, PATH_LIMIT, damages & 2 != 0) }
+    let path = single(random, &path, PATH_LIMIT, damages & 2 != 0);
+    let groups = groups.map(|groups| single(random, &groups, GROUP_COUNT, damages & 4 != 0));
+    Call::OldSearch { whole, groups, path }
 }
 
 fn damage_cuts(random: &mut Random, cuts: &mut Vec<u8>, site: &mut u32) {
@@ -60,19 +64,24 @@ fn cut(random: &mut Random) -> Call {
     Call::Cut { whole: single(random, &whole, FILE_LIMIT, damages & 1 != 0), cuts, site }
 }
 
-/// A part of a random true cut of a plant, and a path over the same labels.
-fn part_and_path(random: &mut Random, plant: fn(&mut Random, &[u32]) -> Plant) -> (Part, Vec<u32>) {
+/// A part, a path, and groups if they are asked for.
+type Asked = (Part, Option<Groups>, Vec<u32>);
+
+/// A part of a random true cut of a plant, and a path and groups over the same labels.
+fn asked(random: &mut Random, plant: fn(&mut Random, &[u32]) -> Plant, grouped: bool) -> Asked {
     let alphabet = path::alphabet(random);
     let plant = plant(random, &alphabet);
     let (sites, further) = (random.pick(&[1, 2, 2, 3, 4]), random.pick(&[0, 0, 0, 10, 100]));
     let parts = plant::true_cut(random, &plant, sites, further);
     let most = parts.iter().max_by_key(|part| part.nodes.len()).expect("a cut has parts");
     let part = if random.chance(70) { most.clone() } else { random.pick(&parts) };
-    (part, path::some_path(random, &alphabet))
+    let path = path::some_path(random, &alphabet);
+    let (groups, path) = groups::grouped(random, &alphabet, path, grouped);
+    (part, groups, path)
 }
 
 /// Doors with links of label 0 to the same targets, and a star of an or of words that hold 0: a reply near its limit, if no door is stopped.
-fn dear_part_and_path(random: &mut Random) -> (Part, Vec<u32>) {
+fn dearly_asked(random: &mut Random, grouped: bool) -> Asked {
     let (doors, n) = (random.between(1, 3), random.between(1, 15));
     let fits = (4095 / doors - 1) / (n + 1) - 1;
     let targets = (fits / n + random.below(2)).clamp(1, 4000 / doors) as u32;
@@ -84,29 +93,37 @@ fn dear_part_and_path(random: &mut Random) -> (Part, Vec<u32>) {
         edges: (0..targets).map(|target| (0, 30 + target)).collect(),
     };
     let part = Part { site: 9, nodes: (0..doors).map(node).collect() };
-    (part, path::or_of(path::any_label(random, &[0]), n, true))
+    let path = path::or_of(path::any_label(random, &[0]), n, true);
+    let (groups, path) = groups::grouped(random, &[0], path, grouped);
+    (part, groups, path)
 }
 
-fn first_reply(random: &mut Random) -> Call {
+fn first_reply(random: &mut Random, grouped: bool) -> Call {
     let dear = random.chance(2);
-    let (part, path) =
-        if dear { dear_part_and_path(random) } else { part_and_path(random, plant::some_plant) };
-    let damages = if dear { 0 } else { damages(random, 2) };
+    let (part, groups, path) = match dear {
+        true => dearly_asked(random, grouped),
+        false => asked(random, plant::some_plant, grouped),
+    };
+    let damages = if dear { 0 } else { damages(random, 2 + usize::from(grouped)) };
     let part = single(random, &part.words(), FILE_LIMIT, damages & 1 != 0);
-    Call::FirstReply { part, path: single(random, &path, PATH_LIMIT, damages & 2 != 0) }
+    let path = single(random, &path, PATH_LIMIT, damages & 2 != 0);
+    let groups = groups.map(|groups| single(random, &groups, GROUP_COUNT, damages & 4 != 0));
+    Call::FirstReply { part, groups, path }
 }
 
-fn second_reply(random: &mut Random) -> Call {
-    let (part, path) = part_and_path(random, plant::any_plant);
+fn second_reply(random: &mut Random, grouped: bool) -> Call {
+    let (part, groups, path) = asked(random, plant::any_plant, grouped);
     let n = bits(path[0], 23, 20) as usize;
     let calls = bundle::call_list(random, &part, n);
-    let mut damages = damages(random, 3);
+    let mut damages = damages(random, 3 + usize::from(grouped));
     if random.chance(30) {
         damages |= 4;
     }
     let part = single(random, &part.words(), FILE_LIMIT, damages & 1 != 0);
     let path = single(random, &path, PATH_LIMIT, damages & 2 != 0);
-    Call::SecondReply { part, path, calls: single(random, &calls, FILE_LIMIT, damages & 4 != 0) }
+    let calls = single(random, &calls, FILE_LIMIT, damages & 4 != 0);
+    let groups = groups.map(|groups| single(random, &groups, GROUP_COUNT, damages & 8 != 0));
+    Call::SecondReply { part, groups, path, calls }
 }
 
 /// The first replies that the sites of a random cut owe.
@@ -115,7 +132,8 @@ fn honest_replies(random: &mut Random) -> Vec<Vec<u32>> {
     let plant = plant::some_plant(random, &alphabet);
     let sites = random.between(1, 5);
     let parts = plant::true_cut(random, &plant, sites, 0);
-    let path = read_path(&bytes_of(&path::some_path(random, &alphabet))).expect("paths are made right");
+    let path = bytes_of(&path::some_path(random, &alphabet));
+    let path = read_path(&path, &OURS).expect("paths are made right");
     parts.iter().map(|part| first_reply_words(part, &path)).collect()
 }
 
@@ -143,12 +161,14 @@ fn join(random: &mut Random) -> Call {
 
 /// A random call of this name.
 pub fn call(random: &mut Random, name: &str) -> Call {
-    match name {
-        "old search" => old_search(random),
+    let plain = name.strip_suffix(" grouped");
+    let grouped = plain.is_some();
+    match plain.unwrap_or(name) {
+        "old search" => old_search(random, grouped),
         "cut" => cut(random),
-        "first reply" => first_reply(random),
+        "first reply" => first_reply(random, grouped),
         "call list" => call_list(random),
-        "second reply" => second_reply(random),
+        "second reply" => second_reply(random, grouped),
         "join" => join(random),
         _ => panic!("no call {name}"),
     }

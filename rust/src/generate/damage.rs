@@ -2,6 +2,7 @@
 
 use crate::evaluation::path::MOST_WAITING;
 use crate::evaluation::words::*;
+use crate::generate::path::{group, outside, range};
 use crate::random::Random;
 
 /// Writes the true length into a file's header.
@@ -154,6 +155,22 @@ pub fn damage_path(random: &mut Random, words: &mut Vec<u32>) {
     mend(words);
 }
 
+/// One group that may be wrong: of another kind or sort, or with other ends.
+fn damage_groups(random: &mut Random, words: &mut [u32]) {
+    let at = random.below(words.len());
+    let (low, high) = (bits(words[at], 11, 0), bits(words[at], 23, 12));
+    words[at] = match random.below(8) {
+        0 => words[at] & 0x0fff_ffff | (random.below(16) as u32) << 28,
+        1 => group(random.below(16) as u32),
+        2 => outside(low, high),
+        3 => words[at] | (random.between(1, 15) as u32) << 24,
+        4 => range(high, low),
+        5 => range(low, low.max(1) - 1),
+        6 => words[at] ^ 1 << random.below(32),
+        _ => random.word(),
+    };
+}
+
 /// Bytes of a damaged size, or no file at all.
 fn damage_bytes(random: &mut Random, bytes: &mut Vec<u8>, limit: usize) {
     let length = bytes.len();
@@ -169,11 +186,13 @@ fn damage_bytes(random: &mut Random, bytes: &mut Vec<u8>, limit: usize) {
     }
 }
 
-/// A single file, damaged.
+/// A single file, or the words of groups, damaged.
 pub fn damaged(random: &mut Random, words: &[u32], limit: usize) -> Vec<u8> {
     let mut words = words.to_vec();
-    let by_size = random.chance(15);
-    if !by_size && limit == PATH_LIMIT {
+    let by_size = random.chance(if limit == GROUP_COUNT { 40 } else { 15 });
+    if !by_size && limit == GROUP_COUNT {
+        damage_groups(random, &mut words);
+    } else if !by_size && limit == PATH_LIMIT {
         damage_path(random, &mut words);
     } else if !by_size && kind(words[0]) == PART && random.chance(20) {
         damage_marks(random, &mut words);

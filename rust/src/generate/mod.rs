@@ -3,6 +3,7 @@
 pub mod bundle;
 pub mod calls;
 pub mod damage;
+pub mod groups;
 pub mod path;
 pub mod plant;
 pub mod question;

@@ -27,24 +27,28 @@ pub fn outside(low: u32, high: u32) -> u32 {
     range(low, high) | 2 << 24
 }
 
+/// The labels of group g.
+pub fn group(g: u32) -> u32 {
+    LABEL << 28 | 1 << 24 | g
+}
+
 /// The labels before and after this one; at an end, itself.
 fn next_to(label: u32) -> (u32, u32) {
     (label.saturating_sub(1), (label + 1).min(4095))
 }
 
-/// Outside a range that ends at a label of the alphabet, or next to one, so that it matters where it ends; some hold no label, and some
-/// nearly all.
-fn outside_word(random: &mut Random, a: u32, b: u32) -> u32 {
+/// A range that ends at one of these labels, or next to one, so that it matters where it ends; some have all labels, and some one.
+pub fn ends_near(random: &mut Random, a: u32, b: u32) -> (u32, u32) {
     let (before, after) = next_to(a);
     let any = random.below(4096) as u32;
     match random.below(10) {
-        0..=2 => outside(a, a),
-        3 | 4 => outside(a.min(b), a.max(b)),
-        5 => outside(after, after.max(b)),
-        6 => outside(before.min(b), before),
-        7 => random.pick(&[outside(0, a), outside(a, 4095)]),
-        8 => random.pick(&[outside(0, before), outside(after, 4095)]),
-        _ => random.pick(&[outside(0, 4095), outside(any, any)]),
+        0..=2 => (a, a),
+        3 | 4 => (a.min(b), a.max(b)),
+        5 => (after, after.max(b)),
+        6 => (before.min(b), before),
+        7 => random.pick(&[(0, a), (a, 4095)]),
+        8 => random.pick(&[(0, before), (after, 4095)]),
+        _ => random.pick(&[(0, 4095), (any, any)]),
     }
 }
 
@@ -55,8 +59,11 @@ pub fn label_word(random: &mut Random, alphabet: &[u32]) -> u32 {
         5 | 6 => range(a.min(b), a.max(b)),
         7 => range(0, 4095),
         8 => range(a.saturating_sub(1), a.saturating_sub(1).max(b)),
-        9 => LABEL << 28 | 1 << 24 | random.below(8) as u32,
-        _ => outside_word(random, a, b),
+        9 => group(random.below(8) as u32),
+        _ => {
+            let (low, high) = ends_near(random, a, b);
+            outside(low, high)
+        }
     }
 }
 

@@ -1,7 +1,8 @@
-//! Random whole questions: a plant, a true cut of it, a path.
+//! Random whole questions: a plant, a true cut of it, a path, with groups or without.
 
 use super::path::{self, any_label, or_of, range, OR, THEN};
-use super::plant;
+use super::{groups, plant};
+use crate::evaluation::groups::Groups;
 use crate::evaluation::part::Part;
 use crate::evaluation::plant::Plant;
 use crate::evaluation::words::{file, PATH};
@@ -12,22 +13,25 @@ use std::collections::{BTreeMap, BTreeSet};
 pub struct Question {
     pub plant: Plant,
     pub parts: Vec<Part>,
+    /// Those that all its calls are handed, or none, for the calls without.
+    pub groups: Option<Groups>,
     pub path: Vec<u32>,
 }
 
-fn cut(random: &mut Random, plant: Plant, path: Vec<u32>) -> Question {
+fn cut(random: &mut Random, plant: Plant, groups: Option<Groups>, path: Vec<u32>) -> Question {
     let most = random.pick(&[1, 2, 3, 5, 16]);
     let sites = random.between(1, most);
     let further = random.pick(&[0, 0, 10, 50, 100]);
     let parts = plant::true_cut(random, &plant, sites, further);
-    Question { plant, parts, path }
+    Question { plant, parts, groups, path }
 }
 
 fn small(random: &mut Random) -> Question {
     let alphabet = path::alphabet(random);
     let plant = plant::some_plant(random, &alphabet);
-    let path = path::some_path(random, &alphabet);
-    cut(random, plant, path)
+    let (path, grouped) = (path::some_path(random, &alphabet), random.chance(50));
+    let (groups, path) = groups::grouped(random, &alphabet, path, grouped);
+    cut(random, plant, groups, path)
 }
 
 /// First replies that are long, many beyond their limit or beyond a bundle's.
@@ -38,9 +42,10 @@ fn dear(random: &mut Random) -> Question {
     let stopped = random.pick(&[0, 0, 10]);
     let plant = plant::stop(random, plant, stopped);
     let (n, star) = (random.between(8, 15), random.chance(80));
-    let path = or_of(any_label(random, &alphabet), n, star);
+    let (path, grouped) = (or_of(any_label(random, &alphabet), n, star), random.chance(25));
+    let (groups, path) = groups::grouped(random, &alphabet, path, grouped);
     let parts = plant::true_cut(random, &plant, sites, 0);
-    Question { plant, parts, path }
+    Question { plant, parts, groups, path }
 }
 
 /// A plant too large for one file, cut where few links cross; some list more nodes than a bundle holds. A single stopped node ends most of
@@ -64,9 +69,11 @@ fn large(random: &mut Random) -> Question {
         true => or_of(any_label(random, &alphabet), 1, true),
         false => path::path(random, &alphabet, 4),
     };
+    let grouped = random.chance(25);
+    let (groups, path) = groups::grouped(random, &alphabet, path, grouped);
     let sites = random.between(6, 16);
     let parts = plant::true_cut(random, &plant, sites, 0);
-    Question { plant, parts, path }
+    Question { plant, parts, groups, path }
 }
 
 /// A call list with a length near its limit: the root links to `wide` nodes of a second site, in thirteen states each, and one of these to
@@ -92,7 +99,7 @@ fn many_calls(random: &mut Random) -> Question {
     let mut words = vec![sevens];
     (1..12).for_each(|_| words.extend([sevens, OR]));
     words.extend([sevens, range(8, 8), THEN, OR]);
-    Question { plant, parts, path: file(PATH, 0, 14, &words) }
+    Question { plant, parts, groups: None, path: file(PATH, 0, 14, &words) }
 }
 
 /// Any question whose parts are parts: each within its limit.

@@ -1,12 +1,12 @@
 -- `old::call::answer` meets its contract. Assumes nothing.
 use borrow.Author.Needs.{needs}
 use Rattle.output.proofs.Frame.{passed, answer-refused, answer-filed}
-use Rattle.old.specs.Old.{oldSearchCall}
+use Rattle.old.specs.Old.{oldSearchGroupedCall}
 use Rattle.old.proofs.call.answer.Statement.{statement}
 use Rattle.old.proofs.call.answer.Tie as tie
 
 pub answer-spec : {M : Type 1} → statement M
-unfolding oldSearchCall
+unfolding oldSearchGroupedCall
 answer-spec =
     tie.close
     (tie.spec

@@ -15,4 +15,7 @@ check-spec =
     (λ c. search (checking, needs))
     (λ c κs. search needs)
     (λ c. search needs)
+    (λ c. search (checking, needs))
+    (λ c κs. search needs)
+    (λ c. search needs)
     (λ c. search (checking, needs)))

@@ -2,6 +2,7 @@
 use borrow.Author.Needs.{needs}
 use lib.ListN.{drop}
 use Rattle.files.specs.Word.{words}
+use Rattle.files.specs.Groups.{loaded}
 use Rattle.expressions.specs.Labels.{exprOf}
 use Rattle.old.proofs.RootSearch.{list-filed}
 use Rattle.old.proofs.call.write.Statement.{statement}
@@ -14,7 +15,8 @@ returns c =
     let cleared = written .before .before .before .before .before in
     let searched = cleared .before .before .before .before in
     let automaton = searched .before .before in
-    let path = words (automaton .before .before .before .before .before .args .path .now) in
+    let args = automaton .before .before .before .before .before .before .args in
+    let path = loaded (words (args .groups .now)) (words (args .path .now)) in
     list-filed _ path _ (closed .close .ensures) (written .write-answers .ensures) (searched .search .ensures (exprOf (drop 1 path)) (automaton .position-automaton .ensures))
     (cleared .clear .ensures) (search needs)
 

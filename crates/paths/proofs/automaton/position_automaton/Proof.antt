@@ -5,15 +5,16 @@ use borrow.Author.Needs.{needs}
 use lib.ListN.{length}
 use Rattle.files.specs.Word.{words}
 use Rattle.files.proofs.Reading.{fewer}
-use Rattle.paths.proofs.Words.{Reading, reading-first, reading-right, reading-applicable, reading-more, reading-last}
+use Rattle.groups.proofs.Grouping.{value-ranges}
+use Rattle.paths.proofs.Words.{Reading, reading-first, reading-right, reading-applicable, reading-more, reading-last, by-value}
 use Rattle.paths.proofs.automaton.position_automaton.Statement.{statement}
 use Rattle.paths.proofs.automaton.position_automaton.Tie as tie
 
 abbrev Inv-loop : tie.InvT-loop
-Inv-loop path b₀ cur₀ b cur = Reading path (cur .at) b
+Inv-loop path groups g b₀ cur₀ b cur = Reading g path (cur .at) b
 
 abbrev μ-loop : tie.MeasureT-loop
-μ-loop path b₀ cur₀ b cur = length (words path) - cur .at
+μ-loop path groups g b₀ cur₀ b cur = length (words path) - cur .at
 
 pub position-automaton-spec : {M : Type 1} → statement M
 position-automaton-spec =
@@ -22,12 +23,14 @@ position-automaton-spec =
     Inv-loop
     μ-loop
     (λ c κs. search needs)
-    (λ c. search (reading-first, needs))
     (λ c κs. search needs)
+    (λ c. search (reading-first, value-ranges, needs))
+    (λ c κs. search needs)
+    (λ c. search needs)
     (λ c. search needs)
     (λ c κs. search (reading-right, reading-applicable, needs))
     (λ c. search (fewer, needs))
     (λ c. search (reading-more, needs))
     (λ c. search needs)
     (λ c κs. search needs)
-    (λ c. search (reading-last, needs)))
+    (λ c. search (reading-last, by-value, needs)))

@@ -11,5 +11,4 @@ put-label-spec =
     (λ c κs. search needs)
     (λ c κs. search needs)
     (λ c κs. search needs)
-    (λ c κs. search needs)
     (λ c. search (label-does, needs)))

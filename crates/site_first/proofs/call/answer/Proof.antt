@@ -1,12 +1,12 @@
 -- `site_first::call::answer` meets its contract. Assumes nothing.
 use borrow.Author.Needs.{needs}
 use Rattle.output.proofs.Frame.{passed, answer-refused, answer-filed}
-use Rattle.site_first.specs.First.{firstReplyCall}
+use Rattle.site_first.specs.First.{firstReplyGroupedCall}
 use Rattle.site_first.proofs.call.answer.Statement.{statement}
 use Rattle.site_first.proofs.call.answer.Tie as tie
 
 pub answer-spec : {M : Type 1} → statement M
-unfolding firstReplyCall
+unfolding firstReplyGroupedCall
 answer-spec =
     tie.close
     (tie.spec

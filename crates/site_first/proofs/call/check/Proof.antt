@@ -13,4 +13,6 @@ check-spec =
     (λ c κs. search needs)
     (λ c. search (checking, needs))
     (λ c κs. search needs)
+    (λ c. search (checking, needs))
+    (λ c κs. search needs)
     (λ c. search (checking, needs)))

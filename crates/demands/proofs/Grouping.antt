@@ -1,0 +1,65 @@
+-- The calls that take a path, with either groups: what they owe of accepted files is what is owed of the path that is asked, and that is an accepted
+-- path, whose list is demand 2's. Assumes nothing.
+use mathlib.Core.Path.{_≡_, refl}
+use mathlib.Core.Logic.{_↔_}
+use mathlib.Core.List.{List}
+use Prim.Native.Nat.{ℕ, _≤_}
+use lib.ListN.{length, getD, drop}
+use Rattle.sets.proofs.Sets.{lists-iff}
+use Rattle.files.specs.Word.{words, bytesOf}
+use Rattle.files.specs.Outcome.{accepted, outcome}
+use Rattle.files.specs.Part.{wholeCheck}
+use Rattle.files.specs.Path.{pathCheck}
+use Rattle.files.specs.Calls.{callsCheck}
+use Rattle.files.proofs.Groups.{groups-ranges, loaded-checked, loaded-head, loaded-body}
+use Rattle.expressions.specs.Labels.{exprOf}
+use Rattle.expressions.proofs.Loading.{grouped-meaning}
+use Rattle.first_replies.specs.FirstReply.{firstReply}
+use Rattle.site_first.proofs.FirstCalls as first
+use Rattle.site_second.specs.Second.{secondReply, againstCheck}
+use Rattle.site_second.proofs.SecondCalls as second
+use Rattle.old.specs.Old.{listed}
+use Rattle.old.proofs.OldCalls as old
+use Rattle.demands.specs.Plant.{Plant, Words, AcceptedPart, FinalList, FinalListBy}
+use Rattle.demands.specs.Grouped.{Groups, ours, own, AcceptedGroups, groupsOf, asks, firstCall, secondCall, oldCall}
+use Rattle.demands.specs.Demand.{Enough, AcceptedPath}
+
+pub asks-checked : (groups : Groups) (path : List ℕ) → AcceptedGroups groups → pathCheck path ≡ 0 → pathCheck (asks groups path) ≡ 0
+asks-checked ours path g c = c
+asks-checked (own bytes) path g c = loaded-checked (words bytes) (groups-ranges bytes g) path c
+
+pub asks-head : (groups : Groups) (path : List ℕ) → getD (asks groups path) 0 0 ≡ getD path 0 0
+asks-head ours path = refl
+asks-head (own bytes) path = loaded-head (words bytes) path
+
+module _ (out work : ℕ) (path : List ℕ) (ok : AcceptedPath path) where
+  pub first-asked : (groups : Groups) (part : List ℕ) → AcceptedGroups groups → Enough 4096 out work → AcceptedPart part
+      → firstCall groups out work (bytesOf part) (bytesOf path) ≡ outcome 0 4096 (firstReply part (asks groups path))
+  first-asked ours part g r c = first.first-outcome out work part path (r .0) (r .1) (c .0) (c .1) (c .2) (ok .0) (ok .1) (ok .2)
+  first-asked (own bytes) part g r c = first.grouped-outcome out work part bytes path (r .0) (r .1) (c .0) (c .1) (c .2) g (ok .0) (ok .1) (ok .2)
+
+  pub second-asked : (groups : Groups) (part calls : List ℕ) → AcceptedGroups groups → Enough 4096 out work → AcceptedPart part
+      → Words calls → length calls ≤ 4096 → callsCheck calls ≡ 0 → againstCheck part path calls ≡ 0
+      → secondCall groups out work (bytesOf part) (bytesOf path) (bytesOf calls) ≡ outcome 0 4096 (secondReply part (asks groups path) calls)
+  second-asked ours part calls g r c = second.second-outcome out work part path calls (r .0) (r .1) (c .0) (c .1) (c .2) (ok .0) (ok .1) (ok .2)
+  second-asked (own bytes) part calls g r c = second.grouped-outcome out work part bytes path calls (r .0) (r .1) (c .0) (c .1) (c .2) g (ok .0) (ok .1) (ok .2)
+
+  pub old-asked : (groups : Groups) (whole : List ℕ) → AcceptedGroups groups → Enough 8192 out work → Words whole → length whole ≤ 4096 → wholeCheck whole ≡ 0
+      → oldCall groups out work (bytesOf whole) (bytesOf path) ≡ accepted (listed whole (asks groups path))
+  old-asked ours whole g r v l c = old.old-call out work whole path (r .0) (r .1) v l c (ok .0) (ok .1) (ok .2)
+  old-asked (own bytes) whole g r v l c = old.grouped-call out work whole bytes path (r .0) (r .1) v l c g (ok .0) (ok .1) (ok .2)
+
+-- textbook meaning: what walks find by the expression of the path that is asked, they find by the path's own, group g read by word g
+module _ (p : Plant) (bytes path : List ℕ) (g : AcceptedGroups (own bytes)) where
+  final-loaded : (ws : List ℕ) → FinalList p (exprOf (drop 1 (asks (own bytes) path))) ws ↔ FinalListBy (words bytes) p (exprOf (drop 1 path)) ws
+  final-loaded ws =
+      let m = grouped-meaning (words bytes) (groups-ranges bytes g) (drop 1 path) in
+      rw (loaded-body (words bytes) path) (
+        λ (xs, l, e). (xs, lists-iff (λ x. (λ (r, w, i, k, t). (r, w, i, k, m w .0 t), λ (r, w, i, k, t). (r, w, i, k, m w .1 t))) l, e),
+        λ (xs, l, e). (xs, lists-iff (λ x. (λ (r, w, i, k, t). (r, w, i, k, m w .1 t), λ (r, w, i, k, t). (r, w, i, k, m w .0 t))) l, e),
+      )
+
+pub final-asked : (p : Plant) (groups : Groups) (path : List ℕ) → AcceptedGroups groups → (ws : List ℕ)
+    → FinalList p (exprOf (drop 1 (asks groups path))) ws ↔ FinalListBy (groupsOf groups) p (exprOf (drop 1 path)) ws
+final-asked p ours path g ws = (λ f. f, λ f. f)
+final-asked p (own bytes) path g ws = final-loaded p bytes path g ws

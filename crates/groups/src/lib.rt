@@ -1,0 +1,2 @@
+// The label groups that travel with a path.
+pub mod table;

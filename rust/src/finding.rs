@@ -1,0 +1,104 @@
+//! Which mistakes a call or a path finds out: by which of them a program would give another outcome.
+
+use crate::beside::{answer, Call};
+use crate::evaluation::groups::{read_groups, Groups, OURS};
+use crate::evaluation::path::{read_path, read_path_by, MayStand, Path};
+use crate::evaluation::words::*;
+use crate::evaluation::{Outcome, Room};
+use crate::mistakes::*;
+
+/// The call with its plant's and path's words taken for others, if any of them is.
+fn mistaken_call(call: &Call, taken: Taken) -> Option<Call> {
+    let mut call = call.clone();
+    let files = match &mut call {
+        Call::OldSearch { whole, path, .. } => vec![whole, path],
+        Call::Cut { whole, .. } => vec![whole],
+        Call::FirstReply { part, path, .. } | Call::SecondReply { part, path, .. } => vec![part, path],
+        Call::CallList { .. } | Call::Join { .. } => vec![],
+    };
+    let mut changed = false;
+    for file in files {
+        if let Some(others) = mistaken(&words_of(file, FILE_LIMIT).ok()?, taken) {
+            *file = bytes_of(&others);
+            changed = true;
+        }
+    }
+    changed.then_some(call)
+}
+
+/// A call in its buffers, with the outcome that is right.
+struct Made<'a> {
+    call: &'a Call,
+    room: Room,
+    outcome: &'a Outcome,
+}
+
+impl Made<'_> {
+    fn differs(&self, other: &Outcome) -> bool {
+        answer(other) != answer(self.outcome)
+    }
+
+    /// Whether an accepted call finds out a mistake in reading words.
+    fn misread(&self, taken: Taken) -> bool {
+        let other = || mistaken_call(self.call, taken).map(|call| call.evaluate(self.room));
+        self.outcome.is_ok() && other().map_or(false, |other| self.differs(&other))
+    }
+
+    /// Whether a program that holds words to this rule would give another number: the call comes to its path, and the path's number is
+    /// another. No check behind the path's gives 9, so the call's number is another too.
+    fn miscounted(&self, may_stand: MayStand) -> bool {
+        let path = match self.call.groups_and_path() {
+            Some((_, path)) => path,
+            None => return false,
+        };
+        let number = |read: Result<Path, Refusal>| read.err().map(|refusal| refusal.number);
+        !ahead_of_groups(self.outcome)
+            && !refused(self.outcome, &["groups"])
+            && number(read_path_by(path, &OURS, may_stand)) != number(read_path(path, &OURS))
+    }
+
+    fn with(&self, groups: &[u8]) -> Outcome {
+        self.call.with(Some(groups)).expect("it reads a path").evaluate(self.room)
+    }
+
+    /// The mistakes in reading the groups that the call is handed, if it is.
+    fn misgrouped(&self) -> Vec<&'static str> {
+        let (groups, path) = match self.call.groups_and_path() {
+            Some((Some(groups), path)) => (groups, path),
+            _ => return vec![],
+        };
+        let differs = |groups: &[u8]| self.differs(&self.with(groups));
+        if let Ok(right) = read_groups(Some(groups)) {
+            return names(&GROUPS, |regrouped| differs(&bytes_of(&regrouped(right))));
+        }
+        let ours = self.with(&bytes_of(&OURS));
+        let sixteen = refuse(16, "groups");
+        let misplaced = |passed: bool| self.differs(if passed { &ours } else { &sixteen });
+        let mended = names(&LOADED, |mended| differs(&mended(groups)));
+        [mended, names(&PLACES, |passed_over| misplaced(passed_over(&ours, path)))].concat()
+    }
+}
+
+/// The mistakes that a call finds out: an accepted one those in reading words, any one those in counting operands and in reading groups.
+pub fn found_out_by_call(call: &Call, room: Room, outcome: &Outcome) -> Vec<&'static str> {
+    let made = Made { call, room, outcome };
+    let [stopped, outside] = [&STOPPED[..], &OUTSIDE].map(|table| names(table, |taken| made.misread(*taken)));
+    let waiting = names(&WAITING, |may_stand| made.miscounted(*may_stand));
+    [stopped, outside, waiting, made.misgrouped()].concat()
+}
+
+/// The mistakes in reading label words, and the groups that are handed in, by which a path is refused, or `of` it is not what is right.
+pub fn found_out_by_path<T: PartialEq>(
+    path: &[u32],
+    groups: Option<Groups>,
+    right: &T,
+    of: impl Fn(&Path) -> T,
+) -> Vec<&'static str> {
+    let differs = |path: &[u32], groups: Groups| {
+        read_path(&bytes_of(path), &groups).map_or(true, |path| of(&path) != *right)
+    };
+    let by = groups.unwrap_or(OURS);
+    let misread = |taken: Taken| mistaken(path, taken).map_or(false, |other| differs(&other, by));
+    let misgrouped = |regrouped: Regrouped| groups.map_or(false, |own| differs(path, regrouped(own)));
+    [names(&OUTSIDE, |taken| misread(*taken)), names(&GROUPS, |regrouped| misgrouped(*regrouped))].concat()
+}
