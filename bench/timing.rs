@@ -80,16 +80,16 @@ impl Rounds {
     }
 }
 
-/// All versions must leave the same number and the same bytes; the input must be accepted. Gives the seconds of each.
+/// All versions must leave the number that is due, and the same bytes. Gives the seconds of each.
 fn compare(versions: &[Version], ask: &Ask, name: &str) -> Vec<f64> {
     let mut first = Buffers::new();
     let (time, number) = first.once(versions[0], ask);
-    assert_eq!(number, 0, "{name}: refused");
+    assert_eq!(number, ask.number, "{name}");
     let mut times = vec![time];
     for &version in &versions[1..] {
         let mut other = Buffers::new();
         let (time, number) = other.once(version, ask);
-        assert!(number == 0 && other.out == first.out && other.work == first.work, "{name}: two versions differ");
+        assert!(number == ask.number && other.out == first.out && other.work == first.work, "{name}: two versions differ");
         times.push(time);
     }
     times

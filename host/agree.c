@@ -53,9 +53,13 @@ static void parse(struct sample *s, enum subject subject, const char *text)
 #define OURS "50fff000 503ff000 500ff000 505ff400 506ff600 507ff700 50bff800 50ffffc0"
 #define MAKERS "50005005 50006006 50006005 50fff000 50000000 50fff800 50005005 50ffffff"
 #define GROUPED "40300007 51000006 51000001 51000006 60000001 60000003 60000001"
+#define IDLE_1 "7130000a 80000002 90000000 a0000631 90000001 a0000032 90000002 a0000633 90000003 a0000032"
+#define WALKED_1 "71300008 80000002 90000001 a0000032 a0000632 90000003 a0000032 a0000632"
+#define STRAY "70000004 80010001 90000000 a0000020"
 
 /* Document 01's table and end-to-end files, then rows of docs/DECISIONS.md on which readings differ, then stopped nodes, then labels outside a
-   range, then groups: ours, a press maker's, and wrong ones. */
+   range, then groups: ours, a press maker's, and wrong ones; then reach words to no door, in rows that nobody follows and in others, and what comes
+   ahead of 14. */
 static const struct example {
     enum subject subject;
     uint32_t number;
@@ -72,7 +76,7 @@ static const struct example {
     {AS_CUT, 11, W "; 0 10 0"},
     {AS_FIRSTS, 12, "70000001; 70000001"},
     {AS_FIRSTS, 13, "70000002 80010001; 71000002 80000001"},
-    {AS_FIRSTS, 14, "70000004 80010001 90000000 a0000020"},
+    {AS_FIRSTS, 14, STRAY},
     {AS_PART, 0, "10000001"},
     {AS_PART, 0, "10000005 20030001 30050002 20010003 30050002"},
     {AS_PART, 0, "11000003 20010002 30060003"},
@@ -131,10 +135,21 @@ static const struct example {
     {AS_ASKED, 0, STOPPED_DOOR "; " MAKERS "; " GROUPED "; " CALL_WORDS},
     {AS_ASKED, 16, STOPPED_DOOR "; ; ; "},
     {AS_ASKED, 7, "10000002 20060001; ; ; "},
+    {AS_FIRSTS, 0, FIRST_0 "; " IDLE_1},
+    {AS_FIRSTS, 0, IDLE_1 "; " FIRST_0},
+    {AS_FIRSTS, 14, FIRST_0 "; " WALKED_1},
+    {AS_FIRSTS, 14, WALKED_1 "; " FIRST_0},
+    {AS_FIRSTS, 0, "70100004 80010001 90000001 a0000020"},
+    {AS_FIRSTS, 0, "70000005 80010001 80000003 90000000 a0000020"},
+    {AS_FIRSTS, 14, "70000007 80010001 90000000 a0000030 80000003 90000000 a0000020"},
+    {AS_FIRSTS, 5, STRAY "; 71000003 80000003 90000000"},
+    {AS_FIRSTS, 12, STRAY "; 70000001"},
+    {AS_FIRSTS, 7, STRAY "; 71000002 80010003"},
+    {AS_FIRSTS, 13, STRAY "; 71000002 80000001"},
 };
 
-/* Files that the damaged ones are made of, with and without stopped nodes, labels outside a range and groups, and a path in which as many operands
-   wait as may. */
+/* Files that the damaged ones are made of, with and without stopped nodes, labels outside a range, groups and reach words to no door, and a path in
+   which as many operands wait as may. */
 static const struct example seeds[] = {
     {AS_PART, 0, "10000005 20030001 30050002 20010003 30050002"},
     {AS_PART, 0, "1a000009 20040000 30000000 30000001 3fff0000 20070007 37ff0007 3800ffff 2005ffff"},
@@ -148,6 +163,8 @@ static const struct example seeds[] = {
     {AS_CALLS, 0, CALL_WORDS},
     {AS_FIRSTS, 0, FIRST_0 "; " FIRST_1},
     {AS_FIRSTS, 0, "72100003 80000000 80010005; 70100007 80000007 90000000 a0000051 a0000071 90000001 a0000001; 73100001"},
+    {AS_FIRSTS, 0, FIRST_0 "; " IDLE_1},
+    {AS_FIRSTS, 0, "71100006 80000002 90000000 a0000031 90000001 a0000061; 70100007 80010005 90000000 a0000071 80000007 90000000 a0000030"},
     {AS_SECONDS, 0, "d0300001; d1300002 e0000002"},
     {AS_SECONDS, 0, "d5f00004 e0000001 e0000003 e000ffff; d0f00003 e0000000 e0000002; dff00001"},
     {AS_CUT, 0, HALTED "; 0 1 0"},
@@ -513,8 +530,8 @@ static void test_dear_reply(uint32_t targets, uint32_t number, size_t words)
     must_be("words of the dear reply, with groups", words, words_of(found));
 }
 
-/* A root's row that reaches 255 doors in all states, and one door on from there in so many: 4,081 pairs and those. */
-static void test_long_list(uint32_t further, uint32_t number, size_t words)
+/* A root's row that reaches 255 doors in all states, and one node on from there in so many: 4,081 pairs and those. That node is a door, or not. */
+static void test_long_list(uint32_t further, bool door, uint32_t number, size_t words)
 {
     static struct file f;
     static uint8_t bytes[4 * MOST];
@@ -532,7 +549,8 @@ static void test_long_list(uint32_t further, uint32_t number, size_t words)
     push(&f, 0x90000003);
     for (uint32_t q = 0; q < further; q++)
         push(&f, 0xa0001000 + q);
-    push(&f, 0x80000100);
+    if (door)
+        push(&f, 0x80000100);
     head(&f, 0x71f00000);
     struct asked asked = {CALL_LIST, {{bytes, first.len + bytes_of(&f, bytes + first.len).len}}, 0};
     must_be("number of the long call list", number, call(&asked, &found));
@@ -597,8 +615,10 @@ int main(int argc, char **argv)
     test_orders();
     test_dear_reply(8, 0, 3875);
     test_dear_reply(9, MOWQACHI_RESULT, 0);
-    test_long_list(14, 0, 4096);
-    test_long_list(15, MOWQACHI_RESULT, 0);
+    test_long_list(14, true, 0, 4096);
+    test_long_list(15, true, MOWQACHI_RESULT, 0);
+    test_long_list(14, false, MOWQACHI_DOOR, 0);
+    test_long_list(15, false, MOWQACHI_DOOR, 0);
     test_buffers();
     for (size_t i = 0; i < sizeof seeds / sizeof *seeds && samples > 0; i++) {
         parse(&s, seeds[i].subject, seeds[i].text);

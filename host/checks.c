@@ -1,6 +1,6 @@
 #include "checks.h"
 
-#include "mowqachi.h"
+#include <string.h>
 
 /* What the words so far say of the next one. */
 struct seen {
@@ -356,15 +356,69 @@ static struct verdict check_twice(struct span s, unsigned kind)
     return fine;
 }
 
-/* 14: a reach word's node is no door. */
-static struct verdict check_reached(struct span s)
+/* Puts a pair into the set, unless it is there. */
+static void enter(struct calls *calls, struct called pair)
 {
-    struct nodes doors;
-    collect(&doors, s, DOOR);
-    for (size_t i = 0; i < words_of(s); i++)
-        if (kind_of(word_at(s, i)) == REACH && !has_node(&doors, pair_node(word_at(s, i))))
-            return at(fault(14, "the reached node is no door of the bundle"), i);
-    return fine;
+    uint16_t state = (uint16_t)(1u << pair.state);
+    if ((calls->states[pair.node] & state) == 0)
+        calls->pairs[calls->count++] = pair;
+    calls->states[pair.node] |= state;
+}
+
+/* A pair's row, if its node is a door that has one: the reach words behind it put their pairs in. */
+static void follow(struct span s, struct calls *calls, size_t place)
+{
+    struct called pair = calls->pairs[place];
+    size_t door = calls->doors[pair.node];
+    bool followed = false;
+    for (size_t i = door + 1; door > 0 && i < words_of(s); i++) {
+        uint32_t w = word_at(s, i);
+        if (kind_of(w) != ROW && kind_of(w) != REACH)
+            return;
+        if (kind_of(w) == ROW)
+            followed = state_of(w) == pair.state;
+        else if (followed)
+            enter(calls, (struct called){pair_node(w), state_of(w), i, place});
+    }
+}
+
+void find_calls(struct span bundle, struct calls *calls)
+{
+    calls->count = 0;
+    memset(calls->states, 0, sizeof calls->states);
+    memset(calls->doors, 0, sizeof calls->doors);
+    for (size_t i = 0; i < words_of(bundle); i++) {
+        uint32_t w = word_at(bundle, i);
+        if (kind_of(w) != DOOR)
+            continue;
+        calls->doors[node_of(w)] = (uint16_t)i;
+        if (door_root(w))
+            enter(calls, (struct called){node_of(w), 0, i, 0});
+    }
+    for (size_t place = 0; place < calls->count; place++)
+        follow(bundle, calls, place);
+}
+
+bool is_stray(uint32_t w, const struct calls *calls)
+{
+    return kind_of(w) == REACH && calls->doors[pair_node(w)] == 0;
+}
+
+size_t first_stray(const struct calls *calls)
+{
+    size_t place = 0;
+    while (place < calls->count && calls->doors[calls->pairs[place].node] != 0)
+        place++;
+    return place;
+}
+
+/* 14: a called node is no door. */
+static struct verdict check_calls(struct span s)
+{
+    static struct calls calls;
+    find_calls(s, &calls);
+    size_t stray = first_stray(&calls);
+    return stray == calls.count ? fine : at(fault(14, "a followed row reaches a node that is no door of the bundle"), calls.pairs[stray].at);
 }
 
 static struct verdict check_files(struct span s, unsigned kind)
@@ -389,7 +443,7 @@ struct verdict check_bundle(struct span s, unsigned kind)
     if (v.number == 0)
         v = check_twice(s, kind == FIRST ? DOOR : ANSWER);
     if (v.number == 0 && kind == FIRST)
-        v = check_reached(s);
+        v = check_calls(s);
     return v;
 }
 

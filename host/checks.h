@@ -1,8 +1,9 @@
-/* The checks of document 01, and of document 02's groups, in their order, with the word at which one fails. They share no code with the library,
-   so that the two can be held against each other (agree.c); both read the documents as docs/DECISIONS.md does. */
+/* The checks of document 01, with document 02's groups and its number 14, in their order, with the word at which one fails. They share no code with
+   the library, so that the two can be held against each other (agree.c, strays.c); both read the documents as docs/DECISIONS.md does. */
 #ifndef CHECKS_H
 #define CHECKS_H
 
+#include "mowqachi.h"
 #include "words.h"
 
 /* The number of the first check that fails, the index of the word where it shows (that of the word past the last one, where it shows at the
@@ -26,6 +27,28 @@ struct verdict check_whole(struct span s);
 struct verdict check_front(struct span s, unsigned kind);
 /* A bundle of FIRST or SECOND replies. */
 struct verdict check_bundle(struct span s, unsigned kind);
+
+/* A pair that a hub calls: the root with state 0, by its door word; or what a reach word of a followed row names, door or no door. */
+struct called {
+    unsigned node, state;
+    size_t at;          /* the word */
+    size_t by;          /* the place of the pair whose row it stands in; the root's own is 0 */
+};
+
+/* The call list's least set, by a bundle of first replies that is accepted as far as 13: pairs behind fewer rows first. */
+struct calls {
+    size_t count;
+    struct called pairs[MOWQACHI_BUNDLE_WORDS];
+    uint16_t states[MOWQACHI_NODES];    /* in which a node is called */
+    uint16_t doors[MOWQACHI_NODES];     /* a door's word, 0 at other nodes: a header stands there */
+};
+
+void find_calls(struct span bundle, struct calls *calls);
+/* Whether a reach word names no door of the bundle. */
+bool is_stray(uint32_t w, const struct calls *calls);
+/* The place of the first pair that names none, which gives 14; the count, where there is no such pair. */
+size_t first_stray(const struct calls *calls);
+
 /* The cut list of an accepted whole, then the site asked. The index is that of a byte. */
 struct verdict check_cuts(struct span whole, struct span cuts, unsigned site);
 /* The eight words of groups. */

@@ -9,6 +9,7 @@ struct place {
     struct nodes own;       /* the nodes of the file's node words */
     struct nodes stopped;   /* the stopped nodes of the part beside it */
     const uint32_t *groups; /* of a path */
+    const struct calls *calls;  /* of a bundle of first replies, or NULL */
     unsigned labels;        /* label words so far */
 };
 
@@ -45,14 +46,15 @@ static void print_part_word(uint32_t w, const struct nodes *own)
         printf("%-12s label %u, target %u%s", "edge", label_of(w), node_of(w), has_node(own, node_of(w)) ? "" : ", outside");
 }
 
-static void print_reply_word(uint32_t w, const struct nodes *stopped)
+static void print_reply_word(uint32_t w, const struct place *place)
 {
+    bool stray = place->calls != NULL && is_stray(w, place->calls);
     switch (kind_of(w)) {
     case DOOR: printf("%-12s %u%s", "door", node_of(w), door_root(w) ? ", root" : ""); break;
     case ROW: printf("%-12s state %u", "row", state_of(w)); break;
-    case REACH: printf("%-12s node %u, state %u", "reach", pair_node(w), state_of(w)); break;
+    case REACH: printf("%-12s node %u, state %u%s", "reach", pair_node(w), state_of(w), stray ? ", no door" : ""); break;
     case CALL:
-        printf("%-12s node %u, state %u%s", "call", pair_node(w), state_of(w), has_node(stopped, pair_node(w)) ? ", stopped" : "");
+        printf("%-12s node %u, state %u%s", "call", pair_node(w), state_of(w), has_node(&place->stopped, pair_node(w)) ? ", stopped" : "");
         break;
     case ANSWER: printf("%-12s node %u", "answer", node_of(w)); break;
     default: printf("kind 0"); break;
@@ -74,7 +76,7 @@ static void print_word(uint32_t w, size_t i, struct place *place)
     } else if (kind_of(w) == NODE || kind_of(w) == EDGE) {
         print_part_word(w, &place->own);
     } else {
-        print_reply_word(w, &place->stopped);
+        print_reply_word(w, place);
     }
     printf("\n");
 }
@@ -122,7 +124,7 @@ static void print_lines(struct span s, struct verdict v, line_printer *print_lin
 
 void print_words(struct span s, struct verdict v, const struct beside *beside)
 {
-    struct place place = {.groups = beside->groups};
+    struct place place = {.groups = beside->groups, .calls = beside->calls};
     collect(&place.own, s, NODE);
     collect_stopped(&place.stopped, beside->part);
     print_lines(s, v, print_word, &place);
@@ -219,6 +221,44 @@ void print_counts(struct span part)
         }
     }
     printf("nodes %zu, doors %zu, stopped %zu, edges %zu, outside targets %zu\n", nodes, doors, stopped, edges, outside);
+}
+
+/* The words that call a pair, from the root's door word on. */
+static void print_way(struct span bundle, struct place *place, size_t k)
+{
+    const struct called *pair = &place->calls->pairs[k];
+    if (k > 0)
+        print_way(bundle, place, pair->by);
+    print_word(word_at(bundle, pair->at), pair->at, place);
+}
+
+/* The site of the file that word i stands in. */
+static unsigned site_at(struct span bundle, size_t i)
+{
+    size_t head = 0;
+    while (head + length_of(word_at(bundle, head)) <= i)
+        head += length_of(word_at(bundle, head));
+    return site_of(word_at(bundle, head));
+}
+
+/* How a pair that names no door is called. */
+static void print_stray(struct span bundle, const struct calls *calls, size_t k)
+{
+    const struct called *stray = &calls->pairs[k], *by = &calls->pairs[stray->by];
+    printf("the way from the root:\n");
+    print_way(bundle, &(struct place){.calls = calls}, k);
+    printf("site %u reports node %u of its door %u in state %u\n", site_at(bundle, stray->at), stray->node, by->node, by->state);
+}
+
+void print_strays(struct span bundle, const struct calls *calls)
+{
+    size_t strays = 0, stray = first_stray(calls);
+    for (size_t i = 0; i < words_of(bundle); i++)
+        strays += is_stray(word_at(bundle, i), calls);
+    if (stray < calls->count)
+        print_stray(bundle, calls, stray);
+    else if (strays > 0)
+        printf("reach words to no door %zu, in rows that nobody follows\n", strays);
 }
 
 static void print_outside(struct span part)

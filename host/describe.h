@@ -4,14 +4,16 @@
 
 #include "checks.h"
 
-/* What is beside a file: the part of the site asked, which may be empty, and the eight groups of a path. */
+/* What is beside a file: the part of the site asked, which may be empty, and the eight groups of a path; or the pairs that are called by a bundle
+   of first replies, which is NULL for other files. */
 struct beside {
     struct span part;
     const uint32_t *groups;
+    const struct calls *calls;
 };
 
 /* The words of s, one a line, with the verdict's mark under its word, and a blank line ahead of every further header; calls of nodes that are
-   stopped in the part beside it say so. Bytes behind the last word are numbered as bytes. */
+   stopped in the part beside it say so, and reach words to no door of the bundle. Bytes behind the last word are numbered as bytes. */
 void print_words(struct span s, struct verdict v, const struct beside *beside);
 /* The words of groups in the same way. */
 void print_groups(struct span s, struct verdict v);
@@ -21,6 +23,8 @@ void print_verdict(struct verdict v, const char *unit, size_t count);
 void print_expression(struct span path);
 /* What an accepted part has. */
 void print_counts(struct span part);
+/* The words by which a bundle calls a node that is no door, the fewest; where it calls none, how many reach words name one. */
+void print_strays(struct span bundle, const struct calls *calls);
 /* An accepted part as a Graphviz picture. */
 void print_picture(struct span part);
 

@@ -9,6 +9,17 @@ uint32_t draw(uint32_t below)
     return state % below;
 }
 
+void draw_order(uint32_t *order, uint32_t count)
+{
+    for (uint32_t k = 0; k < count; k++) {
+        uint32_t place = draw(k + 1);
+        order[k] = k;
+        uint32_t other = order[place];
+        order[place] = k;
+        order[k] = other;
+    }
+}
+
 size_t draw_length(size_t least)
 {
     switch (draw(16)) {

@@ -12,6 +12,8 @@ struct draft {
 
 /* The same numbers in every run. */
 uint32_t draw(uint32_t below);
+/* So many numbers from 0 on, in any order. */
+void draw_order(uint32_t *order, uint32_t count);
 /* A length of a buffer of which at least so many bytes are asked: often just so many, more, one less or far less. */
 size_t draw_length(size_t least);
 

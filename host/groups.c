@@ -77,10 +77,10 @@ static bool check_whole(void)
 {
     static struct draft parts[SITES];
     draw_question(true);
-    cut_up(&plant, draw_cuts(), parts);
+    cut_up(&plant, draw_cuts(SITES), parts, SITES);
     struct draft list = written(OLD_SEARCH_GROUPED, &plant, span_of(&groups), span_of(&path));
     struct draft by_ours = written(OLD_SEARCH, &plant, span_of(&path), none);
-    must_be("joined list", list, joined(parts, span_of(&groups), span_of(&path)));
+    must_be("joined list", list, joined(&(struct question){parts, SITES, span_of(&groups), span_of(&path)}));
     compare(OLD_SEARCH, none);
     damage_path();
     compare(OLD_SEARCH, none);

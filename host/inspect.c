@@ -85,6 +85,8 @@ static unsigned report_beside(struct span s, struct verdict v, const struct besi
         print_expression(s);
     if (v.number == 0 && kind_of(word_at(s, 0)) == PART)
         print_counts(s);
+    if (beside->calls != NULL)
+        print_strays(s, beside->calls);
     print_verdict(v, "word", words_of(s));
     return v.number;
 }
@@ -92,6 +94,17 @@ static unsigned report_beside(struct span s, struct verdict v, const struct besi
 static unsigned report(struct span s, struct verdict v)
 {
     return report_beside(s, v, &(struct beside){.groups = mowqachi_our_groups});
+}
+
+/* A bundle of first replies. Which pairs are called can be told once 13 is passed. */
+static unsigned report_firsts(struct span s)
+{
+    static struct calls calls;
+    struct verdict v = check_bundle(s, FIRST);
+    bool told = v.number == 0 || v.number == MOWQACHI_DOOR;
+    if (told)
+        find_calls(s, &calls);
+    return report_beside(s, v, &(struct beside){.groups = mowqachi_our_groups, .calls = told ? &calls : NULL});
 }
 
 static unsigned report_groups(struct span s, struct verdict v)
@@ -106,7 +119,7 @@ static unsigned as_whole(const struct span *in) { return report(in[0], check_who
 static unsigned as_path(const struct span *in) { return report(in[0], check_file(in[0], PATH)); }
 static unsigned as_calls(const struct span *in) { return report(in[0], check_file(in[0], CALLS)); }
 static unsigned as_list(const struct span *in) { return report(in[0], check_file(in[0], LIST)); }
-static unsigned as_firsts(const struct span *in) { return report(in[0], check_bundle(in[0], FIRST)); }
+static unsigned as_firsts(const struct span *in) { return report_firsts(in[0]); }
 static unsigned as_seconds(const struct span *in) { return report(in[0], check_bundle(in[0], SECOND)); }
 
 /* What the header says. A reply that fills its file stands by itself; words behind it make the file a bundle. */
@@ -121,7 +134,7 @@ static unsigned by_header(const struct span *in)
         return report(in[0], v);
     }
     if ((kind == FIRST || kind == SECOND) && length_of(header) != words_of(in[0]))
-        return report(in[0], check_bundle(in[0], kind));
+        return kind == FIRST ? as_firsts(in) : as_seconds(in);
     return report(in[0], check_file(in[0], kind));
 }
 
@@ -203,7 +216,7 @@ static unsigned as_asked(const struct span *in)
     if (v.number != 0)
         return report_beside(path, v, &(struct beside){.groups = groups});
     v = check_file(list, CALLS);
-    return report_beside(list, v.number != 0 ? v : check_against(part, path, list), &(struct beside){part, groups});
+    return report_beside(list, v.number != 0 ? v : check_against(part, path, list), &(struct beside){.part = part, .groups = groups});
 }
 
 /* What an option asks for, and how many files it takes; those that are not given are NULL. */

@@ -55,11 +55,11 @@ static bool check(void)
     draw_plant(true, labels, LABELS);
     draw_path(MOST_LETTERS, draw_letter);
     struct draft ranges = with_ranges();
-    cut_up(&plant, draw_cuts(), parts);
+    cut_up(&plant, draw_cuts(SITES), parts, SITES);
     struct draft expected = written(OLD_SEARCH, &plant, span_of(&ranges), none);
     must_be("old search", expected, written(OLD_SEARCH, &plant, span_of(&path), none));
-    must_be("joined list, ranges alone", expected, joined(parts, none, span_of(&ranges)));
-    must_be("joined list", expected, joined(parts, none, span_of(&path)));
+    must_be("joined list, ranges alone", expected, joined(&(struct question){parts, SITES, none, span_of(&ranges)}));
+    must_be("joined list", expected, joined(&(struct question){parts, SITES, none, span_of(&path)}));
     return words_of(span_of(&expected)) > 1;
 }
 

@@ -78,19 +78,39 @@ void draw_plant(bool whole, const uint32_t *labels, uint32_t count)
     end_file(&plant, 0, 0x10000000);
 }
 
-struct span draw_cuts(void)
+struct span draw_cuts(uint32_t sites)
 {
     static uint8_t cuts[MOST_NODES];
     size_t nodes = 0;
     for (size_t i = 1; i < words_of(span_of(&plant)); i++)
         if (kind_of(word_at(span_of(&plant), i)) == NODE)
-            cuts[nodes++] = (uint8_t)draw(SITES);
+            cuts[nodes++] = (uint8_t)draw(sites);
     return (struct span){cuts, nodes};
 }
 
-void cut_up(const struct draft *whole, struct span cuts, struct draft parts[SITES])
+uint32_t header_of(const struct draft *file)
 {
-    for (uint32_t s = 0; s < SITES; s++) {
+    return word_at(span_of(file), 0) & 0xffffc000u;
+}
+
+struct draft without(const struct draft *file, const struct nodes *these, bool left)
+{
+    struct draft d = {.len = 4};
+    bool out = false;
+    for (size_t i = 1; i < words_of(span_of(file)); i++) {
+        uint32_t w = word_at(span_of(file), i);
+        bool named = has_node(these, node_of(w));
+        out = kind_of(w) == NODE ? named : out;
+        if (!out && (left || !named))
+            put(&d, w);
+    }
+    end_file(&d, 0, header_of(file));
+    return d;
+}
+
+void cut_up(const struct draft *whole, struct span cuts, struct draft *parts, uint32_t sites)
+{
+    for (uint32_t s = 0; s < sites; s++) {
         parts[s].len = 0;
         append(&parts[s], (struct asked){CUT, {span_of(whole), cuts}, s});
     }
@@ -148,19 +168,22 @@ struct draft draw_calls(void)
     return d;
 }
 
-/* A call by groups, if there are any. */
-static struct asked grouped(struct asked plain, struct span by)
+struct draft replies(const struct question *q, enum call trip, struct span calls)
 {
-    return by.len > 0 ? with_groups(&plain, by) : plain;
+    struct draft bundle = {.len = 0};
+    uint32_t order[MOWQACHI_SITES];
+    draw_order(order, q->sites);
+    for (uint32_t k = 0; k < q->sites; k++) {
+        struct asked plain = {trip, {span_of(&q->parts[order[k]]), q->path, calls}, 0};
+        append(&bundle, q->groups.len > 0 ? with_groups(&plain, q->groups) : plain);
+    }
+    return bundle;
 }
 
-struct draft joined(const struct draft parts[SITES], struct span by, struct span asked)
+struct draft joined(const struct question *q)
 {
-    struct draft firsts = {.len = 0}, seconds = {.len = 0};
-    for (int s = 0; s < SITES; s++)
-        append(&firsts, grouped((struct asked){FIRST_REPLY, {span_of(&parts[s]), asked}, 0}, by));
+    struct draft firsts = replies(q, FIRST_REPLY, none);
     struct draft calls = written(CALL_LIST, &firsts, none, none);
-    for (int s = 0; s < SITES; s++)
-        append(&seconds, grouped((struct asked){SECOND_REPLY, {span_of(&parts[s]), asked, span_of(&calls)}, 0}, by));
+    struct draft seconds = replies(q, SECOND_REPLY, span_of(&calls));
     return written(JOIN, &seconds, none, none);
 }

@@ -20,8 +20,12 @@ extern struct nodes stopped;
 /* Links have the labels given, which ascend. A third of the nodes are stopped, roots, doors and others alike. A whole has a root, and its
    links end within. */
 void draw_plant(bool whole, const uint32_t *labels, uint32_t count);
-/* A site for each node of the plant, until the next draw. */
-struct span draw_cuts(void);
+/* One of so many sites for each node of the plant, until the next draw. */
+struct span draw_cuts(uint32_t sites);
+/* A file's header without its length. */
+uint32_t header_of(const struct draft *file);
+/* A part or a whole without these nodes and their links; the links to them are left, or not. */
+struct draft without(const struct draft *file, const struct nodes *these, bool left);
 uint32_t range(uint32_t low, uint32_t high);
 /* A range with two of the labels given as its ends. */
 uint32_t draw_range(const uint32_t *labels, uint32_t count);
@@ -34,9 +38,16 @@ struct draft draw_calls(void);
 
 struct draft written(enum call name, const struct draft *x, struct span y, struct span z);
 /* Each site's part of a whole. */
-void cut_up(const struct draft *whole, struct span cuts, struct draft parts[SITES]);
-/* The joined list of the parts, for a path, by groups or, where there are none, by the calls without. */
-struct draft joined(const struct draft parts[SITES], struct span by, struct span asked);
+void cut_up(const struct draft *whole, struct span cuts, struct draft *parts, uint32_t sites);
+/* What is asked of the parts in a question: so many sites, a path, and groups, or none for the calls without. */
+struct question {
+    const struct draft *parts;
+    uint32_t sites;
+    struct span groups, path;
+};
+/* The sites' replies of one trip in an order that is drawn: a bundle. */
+struct draft replies(const struct question *q, enum call trip, struct span calls);
+struct draft joined(const struct question *q);
 bool equal(const struct draft *a, const struct draft *b);
 _Noreturn void fail(const char *what);
 void must_be(const char *what, struct draft expected, struct draft got);

@@ -1,7 +1,8 @@
 /* Questions from end to end, as a host asks them: document 01's whole W, cut at 0, 1, 0, and its path P; then plants with a stopped node, paths
-   of labels outside a range, and a path of groups, by ours and by a press maker's. Each site and the hub are played in turn; the joined list must
-   be the old search's. Prints every file that goes over a line. */
+   of labels outside a range, a path of groups, by ours and by a press maker's, and a link to a removed node, idle and walked. Each site and the hub
+   are played in turn; the joined list must be the old search's. Prints every file that goes over a line. */
 #include <inttypes.h>
+#include <stdbool.h>
 #include <stdio.h>
 #include <stdlib.h>
 #include <string.h>
@@ -33,18 +34,21 @@ static const struct question {
     size_t nodes;       /* bytes of the cut list */
     uint32_t whole[7], path[7];
     const uint32_t *groups;     /* NULL: ours */
+    uint32_t part[4];   /* of site 1, where it has a link that the whole has not */
 } questions[] = {
-    {"document 01: 5 then (6 then 5)*", 3, W, P, NULL},
-    {"node 3 stopped: 5 then (6 then 5)*", 3, HALTED, P, NULL},
-    {"node 3 stopped: 5 then 6, which ends there", 3, HALTED, {0x40200004, 0x50005005, 0x50006006, 0x60000001}, NULL},
-    {"node 3 stopped: 5 then 6 then 5, through it", 3, HALTED, {0x40300006, 0x50005005, 0x50006006, 0x60000001, 0x50005005, 0x60000001}, NULL},
-    {"the root stopped: the empty word", 1, {0x10000002, 0x20070001}, {0x40000002, 0x60000000}, NULL},
+    {"document 01: 5 then (6 then 5)*", 3, W, P, NULL, {0}},
+    {"node 3 stopped: 5 then (6 then 5)*", 3, HALTED, P, NULL, {0}},
+    {"node 3 stopped: 5 then 6, which ends there", 3, HALTED, {0x40200004, 0x50005005, 0x50006006, 0x60000001}, NULL, {0}},
+    {"node 3 stopped: 5 then 6 then 5, through it", 3, HALTED, {0x40300006, 0x50005005, 0x50006006, 0x60000001, 0x50005005, 0x60000001}, NULL, {0}},
+    {"the root stopped: the empty word", 1, {0x10000002, 0x20070001}, {0x40000002, 0x60000000}, NULL, {0}},
     {"any link but 6, then (any but 5, any but 6)*: as document 01's path", 3, W,
-     {0x40300007, 0x52006006, 0x52005005, 0x52006006, 0x60000001, 0x60000003, 0x60000001}, NULL},
-    {"any number of links but 6", 3, W, {0x40100003, 0x52006006, 0x60000003}, NULL},
-    {"any number of links but 0 to 4095, of which there are none", 3, W, {0x40100003, 0x52fff000, 0x60000003}, NULL},
-    {"group 6 then (group 1 then group 6)*, and no link is in our group 6", 3, W, GROUPED, NULL},
-    {"the same with a press maker's groups: as document 01's path", 3, W, GROUPED, makers},
+     {0x40300007, 0x52006006, 0x52005005, 0x52006006, 0x60000001, 0x60000003, 0x60000001}, NULL, {0}},
+    {"any number of links but 6", 3, W, {0x40100003, 0x52006006, 0x60000003}, NULL, {0}},
+    {"any number of links but 0 to 4095, of which there are none", 3, W, {0x40100003, 0x52fff000, 0x60000003}, NULL, {0}},
+    {"group 6 then (group 1 then group 6)*, and no link is in our group 6", 3, W, GROUPED, NULL, {0}},
+    {"the same with a press maker's groups: as document 01's path", 3, W, GROUPED, makers, {0}},
+    {"a link 5 of node 2 to the removed node 99, which no walk takes", 3, W, P, NULL, {0x11000004, 0x20010002, 0x30050063, 0x30060003}},
+    {"a link 6 there, which walks take", 3, W, P, NULL, {0x11000004, 0x20010002, 0x30060003, 0x30060063}},
 };
 
 static void put_words(struct file *f, const uint32_t *words, size_t count)
@@ -69,14 +73,15 @@ static void print_file(const char *name, const struct file *f)
 }
 
 /* What a host does after every call: a refusal ends the question, an output is handed on at its length. */
-static void take(const char *name, uint32_t number, struct file *f)
+static bool take(const char *name, uint32_t number, struct file *f)
 {
     if (number != MOWQACHI_ACCEPTED) {
         printf("%s: refused %" PRIu32 "\n", name, number);
-        exit(1);
+        return false;
     }
     f->len = mowqachi_file_bytes(f->bytes);
     print_file(name, f);
+    return true;
 }
 
 /* Two replies always fit a bundle; a host with more sites looks whether they do. */
@@ -89,11 +94,18 @@ static void bundle_up(const struct file *files)
     }
 }
 
-static void cut_whole(size_t nodes)
+/* The parts that the cutter makes, or a site's own as it stands there. */
+static bool cut_whole(const struct question *q)
 {
     for (uint32_t s = 0; s < SITES; s++)
-        take("part", mowqachi_cut(whole.bytes, whole.len, cuts, nodes, s, parts[s].bytes, sizeof parts[s].bytes, work, sizeof work),
-             &parts[s]);
+        if (!take("part", mowqachi_cut(whole.bytes, whole.len, cuts, q->nodes, s, parts[s].bytes, sizeof parts[s].bytes, work, sizeof work),
+                  &parts[s]))
+            return false;
+    if (q->part[0] != 0) {
+        put_file(&parts[1], q->part);
+        print_file("part as it stands", &parts[1]);
+    }
+    return true;
 }
 
 static uint32_t first_reply(const struct file *part, struct file *out)
@@ -104,12 +116,13 @@ static uint32_t first_reply(const struct file *part, struct file *out)
                                         out->bytes, sizeof out->bytes, work, sizeof work);
 }
 
-static void first_trip(void)
+static bool first_trip(void)
 {
     for (int s = 0; s < SITES; s++)
-        take("first reply", first_reply(&parts[s], &firsts[s]), &firsts[s]);
+        if (!take("first reply", first_reply(&parts[s], &firsts[s]), &firsts[s]))
+            return false;
     bundle_up(firsts);
-    take("call list", mowqachi_call_list(bundle.bytes, bundle.len, calls.bytes, sizeof calls.bytes, work, sizeof work), &calls);
+    return take("call list", mowqachi_call_list(bundle.bytes, bundle.len, calls.bytes, sizeof calls.bytes, work, sizeof work), &calls);
 }
 
 /* By the groups of the first trip. */
@@ -122,12 +135,13 @@ static uint32_t second_reply(const struct file *part, struct file *out)
                                          out->bytes, sizeof out->bytes, work, sizeof work);
 }
 
-static void second_trip(void)
+static bool second_trip(void)
 {
     for (int s = 0; s < SITES; s++)
-        take("second reply", second_reply(&parts[s], &seconds[s]), &seconds[s]);
+        if (!take("second reply", second_reply(&parts[s], &seconds[s]), &seconds[s]))
+            return false;
     bundle_up(seconds);
-    take("final list", mowqachi_join(bundle.bytes, bundle.len, joined.bytes, sizeof joined.bytes, work, sizeof work), &joined);
+    return take("final list", mowqachi_join(bundle.bytes, bundle.len, joined.bytes, sizeof joined.bytes, work, sizeof work), &joined);
 }
 
 static uint32_t old_search(void)
@@ -148,10 +162,10 @@ static void ask(const struct question *q)
     if (groups.len > 0)
         print_file("groups", &groups);
     print_file("path", &path);
-    cut_whole(q->nodes);
-    first_trip();
-    second_trip();
-    take("old search", old_search(), &old);
+    if (!cut_whole(q) || !first_trip() || !second_trip() || !take("old search", old_search(), &old)) {
+        printf("the question has ended\n\n");
+        return;
+    }
     if (memcmp(joined.bytes, old.bytes, sizeof old.bytes) != 0) {
         printf("the two lists differ\n");
         exit(1);

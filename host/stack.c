@@ -102,8 +102,8 @@ static void fill_chain(struct draft *f)
     }
 }
 
-/* A root that reaches 255 doors in all states, and at most 4,096 words of doors behind it. */
-static void fill_wide(struct draft *f)
+/* A root that reaches 255 doors in all states, the first of which reaches one door more in so many; and at most 4,096 words of doors behind it. */
+static void fill_wide(struct draft *f, uint32_t further)
 {
     f->len = 4;
     put(f, 0x80010000);
@@ -113,9 +113,31 @@ static void fill_wide(struct draft *f)
     end_file(f, 0, 0x70f00000);
     size_t from = f->len;
     f->len += 4;
-    for (uint32_t x = 1; x < MOWQACHI_REPLY_WORDS; x++)
+    put(f, 0x80000001);
+    put(f, 0x90000000);
+    for (uint32_t q = 0; q < further; q++)
+        put(f, 0xa0001000 + q);
+    for (uint32_t x = 2; f->len < from + 4 * MOWQACHI_REPLY_WORDS; x++)
         put(f, 0x80000000 + x);
     end_file(f, from, 0x71f00000);
+}
+
+/* Sixteen replies of doors all over the nodes, each with a row to the next door, which is in the next reply; that of the last door leads to the
+   node so far behind it: to itself, or to no door. */
+static void fill_spread(struct draft *f, uint32_t behind)
+{
+    uint32_t each = (MOWQACHI_BUNDLE_WORDS / MOWQACHI_SITES - 1) / 3, doors = each * MOWQACHI_SITES, apart = MOWQACHI_NODES / doors;
+    f->len = 0;
+    for (uint32_t site = 0; site < MOWQACHI_SITES; site++) {
+        size_t from = f->len;
+        f->len += 4;
+        for (uint32_t x = site; x < doors; x += MOWQACHI_SITES) {
+            put(f, (x == 0 ? 0x80010000 : 0x80000000) + apart * x);
+            put(f, 0x90000000);
+            put(f, 0xa0000000 + 16 * (x + 1 == doors ? apart * x + behind : apart * (x + 1)));
+        }
+        end_file(f, from, 0x70f00000 + (site << 24));
+    }
 }
 
 /* Words of a kind that go up by one: a call list, or a second reply. */
@@ -171,14 +193,20 @@ static void add_searches(void)
 
 static void add_bundles(void)
 {
-    static struct draft chain, wide, answers;
+    static struct draft chain, wide, over, spread, stray, answers;
     const struct span none = {NULL, 0};
     fill_chain(&chain);
-    fill_wide(&wide);
+    fill_wide(&wide, 14);
+    fill_wide(&over, 15);
+    fill_spread(&spread, 0);
+    fill_spread(&stray, 1);
     fill_words(&answers, 0xd0f00000, 0xe0000000);
     fill_words(&answers, 0xdff00000, 0xe000f000);
     add(CALL_LIST, 0, span_of(&chain), none, none);
     add(CALL_LIST, 0, span_of(&wide), none, none);
+    add(CALL_LIST, MOWQACHI_RESULT, span_of(&over), none, none);
+    add(CALL_LIST, 0, span_of(&spread), none, none);
+    add(CALL_LIST, MOWQACHI_DOOR, span_of(&stray), none, none);
     add(JOIN, 0, span_of(&answers), none, none);
 }
 

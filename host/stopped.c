@@ -24,33 +24,12 @@ static const uint32_t paths[][7] = {
 
 static const struct nodes nobody;
 
-/* The header without its length. */
-static uint32_t header_of(const struct draft *d)
-{
-    return word_at(span_of(d), 0) & 0xffffc000u;
-}
-
 static void pick_path(void)
 {
     const uint32_t *words = paths[draw(sizeof paths / sizeof *paths)];
     path.len = 0;
     for (size_t i = 0; i < length_of(words[0]); i++)
         put(&path, words[i]);
-}
-
-/* The plant without its stopped nodes, their links and the links to them. */
-static struct draft without_stopped(void)
-{
-    struct draft d = {.len = 4};
-    bool out = false;
-    for (size_t i = 1; i < words_of(span_of(&plant)); i++) {
-        uint32_t w = word_at(span_of(&plant), i);
-        out = kind_of(w) == NODE ? stopped_bit(w) : out;
-        if (!out && !has_node(&stopped, node_of(w)))
-            put(&d, w);
-    }
-    end_file(&d, 0, header_of(&plant));
-    return d;
 }
 
 /* A part with the stopped bit on just these nodes. */
@@ -91,7 +70,7 @@ static void check_part(void)
 {
     draw_plant(false, labels, LABELS);
     pick_path();
-    struct draft rest = without_stopped(), calls = draw_calls();
+    struct draft rest = without(&plant, &stopped, false), calls = draw_calls();
     struct draft reply = written(FIRST_REPLY, &rest, span_of(&path), none);
     must_be("first reply", with_doors(&reply), written(FIRST_REPLY, &plant, span_of(&path), none));
     must_be("second reply", written(SECOND_REPLY, &rest, span_of(&path), span_of(&calls)),
@@ -103,9 +82,9 @@ static void cut_plant(struct draft parts[SITES])
 {
     static struct draft plain[SITES];
     struct draft running = marked(&plant, &nobody);
-    struct span cuts = draw_cuts();
-    cut_up(&plant, cuts, parts);
-    cut_up(&running, cuts, plain);
+    struct span cuts = draw_cuts(SITES);
+    cut_up(&plant, cuts, parts, SITES);
+    cut_up(&running, cuts, plain, SITES);
     for (int s = 0; s < SITES; s++)
         must_be("part", marked(&plain[s], &stopped), parts[s]);
 }
@@ -118,12 +97,12 @@ static void check_whole(void)
     pick_path();
     end_file(&expected, 0, 0xf0000000);
     if (!has_node(&stopped, root)) {
-        struct draft rest = without_stopped();
+        struct draft rest = without(&plant, &stopped, false);
         expected = written(OLD_SEARCH, &rest, span_of(&path), none);
     }
     must_be("old search", expected, written(OLD_SEARCH, &plant, span_of(&path), none));
     cut_plant(parts);
-    must_be("joined list", expected, joined(parts, none, span_of(&path)));
+    must_be("joined list", expected, joined(&(struct question){parts, SITES, none, span_of(&path)}));
 }
 
 int main(int argc, char **argv)

@@ -1,6 +1,6 @@
 /* The split link search, for a C11 or C++ host. docs/CALLS.md tells which call belongs where, docs/FORMATS.md what every file, trip and
-   number is: document 01, and of document 02 the requests 1, labels outside a range, 3, groups of the caller's own, 7, stopped nodes, and 9,
-   eight operands waiting.
+   number is: document 01, and of document 02 the requests 1, labels outside a range, 3, groups of the caller's own, 5, links that nobody walks,
+   7, stopped nodes, and 9, eight operands waiting.
 
    Buffers. A length is in bytes. Any alignment will do. Inputs are only read, and may overlap one another. The output and the working
    buffer overlap nothing: neither each other nor an input. A pointer is never null: where a length is 0, pass the address of any object.
@@ -12,8 +12,8 @@
 
    Order of checks: 1; then the inputs in the order of the parameters; then 15. In one input 2, 3, 4, then word by word 5, 10, 6, 7, 9,
    then at its end 5, 7, 8, 9. A cut list has only 11, and so has the site asked, after it. Groups have only 16. In a bundle 2, then file by
-   file as above, then over all files 12, 7, 13, 14. A call list by itself, then 12 against the path and 14 against the part. The first check
-   that fails gives the number.
+   file as above, then over all files 12, 7, 13, and 14 once it is known which pairs are called, however many. A call list by itself, then 12
+   against the path and 14 against the part. The first check that fails gives the number.
 
    Labels outside a range. A path's label word of sort 2 (bits 27..24) has a range's fields, the high end in 23..12 and the low end in 11..0,
    and holds the labels below the low end and those above the high one: any label but 5 is 0x52005005. The low end is not above the high one.
@@ -25,7 +25,12 @@
    question have the same, in both trips. If they have not, nothing is promised, and no check sees it. The hub's calls and the cutter take none.
 
    Stopped nodes. Bit 18 of a node word says that the node is stopped; bits 27..19 are zero. No walk starts at a stopped node or enters one.
-   The host sets and clears the bit in its parts and wholes. */
+   The host sets and clears the bit in its parts and wholes.
+
+   Links to removed nodes. A part may keep a link to a node that is there no more; its first reply reports that node like any other outside it. The
+   hub gives 14 exactly if a pair of the call list's least set has a node that is no door of the bundle. Of the replies of a true cut it does if a
+   walk from the root, on which the path's states can step, takes such a link; if none does, the list is as if the link were not there. A whole has
+   no such link: the old search and the cutter give 8. */
 #ifndef MOWQACHI_H
 #define MOWQACHI_H
 
@@ -77,13 +82,13 @@ enum mowqachi_number {
     MOWQACHI_WORD = 5,     /* word not allowed there, zero bit set, low end above high, row without reach words */
     MOWQACHI_ORDER = 6,    /* not strictly ascending */
     MOWQACHI_ROOT = 7,     /* root without door; second root; whole or first bundle without root */
-    MOWQACHI_TARGET = 8,   /* whole: target not a node */
+    MOWQACHI_TARGET = 8,   /* whole: target not a node, walked or not */
     MOWQACHI_OPERAND = 9,  /* operand missing, 9 waiting, not one left, label words not n */
     MOWQACHI_STATE = 10,   /* state above the file's n */
     MOWQACHI_CUT = 11,     /* cut list's length or a byte above 15; site asked above 15 */
     MOWQACHI_BUNDLE = 12,  /* site twice or different n in a bundle; call list's n not the path's */
     MOWQACHI_TWICE = 13,   /* a door or answer node in two files */
-    MOWQACHI_DOOR = 14,    /* a reach word's node is no door of the bundle; a called node of the part is no door */
+    MOWQACHI_DOOR = 14,    /* a pair of the call list's least set has a node that is no door of the bundle; a called node of the part is no door */
     MOWQACHI_RESULT = 15,  /* result over its limit */
     MOWQACHI_GROUPS = 16   /* groups not just eight words, or with a word that is no range or has its low end above its high end */
 };
@@ -115,13 +120,14 @@ uint32_t mowqachi_old_search(const uint8_t *whole, size_t whole_len, const uint8
 uint32_t mowqachi_cut(const uint8_t *whole, size_t whole_len, const uint8_t *cuts, size_t cuts_len, uint32_t site,
                       uint8_t *out, size_t out_len, uint8_t *work, size_t work_len);
 
-/* First trip, at a site: what walks from its doors reach outside its part, stopped there or not. A stopped door has its door word and no rows.
-   Output: MOWQACHI_REPLY_BYTES. */
+/* First trip, at a site: what walks from its doors reach outside its part, stopped there or not, and also if there is no such node. A stopped door
+   has its door word and no rows. Output: MOWQACHI_REPLY_BYTES. */
 uint32_t mowqachi_first_reply(const uint8_t *part, size_t part_len, const uint8_t *path, size_t path_len,
                               uint8_t *out, size_t out_len, uint8_t *work, size_t work_len);
 
-/* First trip, at the hub: the call list of a bundle of first replies, one after another. It names stopped doors too, as replies do not tell
-   them apart. Output: MOWQACHI_CALLS_BYTES. */
+/* First trip, at the hub: the call list of a bundle of first replies, one after another: the least set that has the root with state 0 and is closed
+   under the rows. It names stopped doors too, as replies do not tell them apart. A row that is not followed may name any node; a pair of the set
+   whose node is no door gives 14, ahead of 15. Output: MOWQACHI_CALLS_BYTES. */
 uint32_t mowqachi_call_list(const uint8_t *bundle, size_t bundle_len, uint8_t *out, size_t out_len, uint8_t *work, size_t work_len);
 
 /* Second trip, at a site: the nodes of its part that the called pairs lead to. A call at a stopped door leads to none, and no stopped node is

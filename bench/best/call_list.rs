@@ -1,6 +1,6 @@
 //! The call list with a table from nodes to doors, a stack of doors that wait, and the doors sorted once.
 use crate::inputs::Ask;
-use crate::plain::{first_bundle_but_14, settle, Outcome};
+use crate::plain::{first_bundle, settle, Outcome};
 use crate::words::*;
 
 /// The place of each node's door, 0 where there is none.
@@ -12,8 +12,8 @@ fn doors(ws: &[u32]) -> Vec<u16> {
     places
 }
 
-/// The states that each door is called in, by the door word's place.
-fn search(ws: &[u32], places: &[u16]) -> Vec<u16> {
+/// The states that each door is called in, by the door word's place; 14 at the first followed reach word without a door.
+fn search(ws: &[u32], places: &[u16]) -> Result<Vec<u16>, u32> {
     let (mut called, mut pending, mut stack) = (vec![0u16; ws.len()], vec![0u16; ws.len()], Vec::new());
     let root = ws.iter().position(|&w| kind(w) == 8 && w & ROOT_DOOR != 0).unwrap_or(0);
     (called[root], pending[root]) = (1, 1);
@@ -26,6 +26,9 @@ fn search(ws: &[u32], places: &[u16]) -> Vec<u16> {
                 on = states >> state(w) & 1 == 1;
             } else if on {
                 let j = places[pair_node(w) as usize] as usize;
+                if j == 0 {
+                    return Err(14);
+                }
                 let new = 1 << state(w) & !called[j];
                 if new != 0 && pending[j] == 0 {
                     stack.push(j);
@@ -35,7 +38,7 @@ fn search(ws: &[u32], places: &[u16]) -> Vec<u16> {
             }
         }
     }
-    called
+    Ok(called)
 }
 
 fn list(ws: &[u32], called: &[u16]) -> Outcome {
@@ -55,11 +58,7 @@ fn list(ws: &[u32], called: &[u16]) -> Outcome {
 
 pub fn call_list(ask: &Ask, out: &mut [u8], work: &mut [u8]) -> u32 {
     settle(4096, out, work, || {
-        let ws = first_bundle_but_14(&ask.file)?;
-        let places = doors(&ws);
-        if ws.iter().any(|&w| kind(w) == 10 && places[pair_node(w) as usize] == 0) {
-            return Err(14);
-        }
-        list(&ws, &search(&ws, &places))
+        let ws = first_bundle(&ask.file)?;
+        list(&ws, &search(&ws, &doors(&ws))?)
     })
 }

@@ -6,6 +6,7 @@ use crate::words::*;
 #[derive(Clone)]
 pub struct Bundle {
     size: usize,
+    number: u32,
     /// The doors of each file, in order.
     files: Vec<Vec<Door>>,
 }
@@ -55,7 +56,7 @@ impl Gene for Bundle {
                 _ => files.last_mut().unwrap().last_mut().unwrap().rows.last_mut().unwrap().1.push(w & 0xf_ffff),
             }
         }
-        Bundle { size: ws.len(), files }
+        Bundle { size: ws.len(), number: ask.number, files }
     }
 
     fn change(&mut self, draws: &mut Draws) {
@@ -86,7 +87,7 @@ impl Gene for Bundle {
 
     fn ask(&self) -> Ask {
         let ws = self.words();
-        Ask { file: bytes(&ws[..ws.len().min(self.size)]), ..Ask::default() }
+        Ask { file: bytes(&ws[..ws.len().min(self.size)]), number: self.number, ..Ask::default() }
     }
 
     fn describe(&self) -> String {

@@ -1,4 +1,4 @@
-//! A search for dearer inputs: random changes of the shapes' own inputs, kept where the library takes longer and still accepts.
+//! A search for dearer inputs: random changes of the shapes' own inputs, kept where the library takes longer and still gives the same number.
 mod bundle;
 mod plant;
 
@@ -16,10 +16,10 @@ pub trait Gene: Clone {
 pub use bundle::Bundle;
 pub use plant::Plant;
 
-/// The least of several times of a call, 0 where it refuses: at least three, more where the call is quick.
+/// The least of several times of a call, 0 where its number is not the one that is due: at least three, more where the call is quick.
 fn cost(version: Version, ask: &Ask, buffers: &mut Buffers) -> f64 {
     let (mut least, number) = buffers.once(version, ask);
-    if number != 0 {
+    if number != ask.number {
         return 0.0;
     }
     for _ in 0..((1e-3 / least) as usize).clamp(2, 20) {

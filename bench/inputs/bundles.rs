@@ -58,9 +58,36 @@ pub fn all_at_once(size: usize) -> Vec<u32> {
     [file(7, 0, root), file(7, 1, other)].concat()
 }
 
-/// Sixteen files of doors with two rows of two reach words each, to any doors.
-pub fn random(size: usize) -> Vec<u32> {
-    let (each, mut draws) = (((size - 16) / 16 / 7) as u32, Draws(size as u32));
+/// Sixteen files of doors that come from them by turns, each with one row, which leads to the door before; the last door is the root. The
+/// first door, node 1, leads to `end`.
+pub fn chain_by_turns(size: usize, end: u32) -> Vec<u32> {
+    let each = ((size - 16) / 16 / 3) as u32;
+    let to = |x: u32| if x > 1 { x - 1 } else { end };
+    let body = |site: u32| (0..each).map(|k| 16 * k + site + 1).flat_map(|x| [door(x, x == 16 * each), ROW, reach(to(x), 0)]).collect();
+    (0..16).map(|site| file(7, site, body(site))).collect::<Vec<_>>().concat()
+}
+
+/// Two doors with rows of all states, as long as their files allow. The first calls the second in its own state, and that the first in the
+/// next one; so each is taken sixteen times, in one state. Behind that each row has reach words to doors without rows.
+pub fn state_after_state(size: usize) -> Vec<u32> {
+    let more = ((size / 2 - 40) / 16 - 2) as u32;
+    let row = |q: u32, call: Option<u32>| {
+        let others = (0..more).map(|k| reach(100 + k / 16, k % 16));
+        [ROW | q].into_iter().chain(call).chain(others).collect::<Vec<_>>()
+    };
+    let mut first = vec![door(0, true)];
+    first.extend((0..16).flat_map(|q| row(q, Some(reach(1, q)))));
+    let mut second = vec![door(1, false)];
+    second.extend((0..16).flat_map(|q| row(q, (q < 15).then(|| reach(0, q + 1)))));
+    second.extend((0..(more + 15) / 16).map(|k| door(100 + k, false)));
+    [file(7, 0, first), file(7, 1, second)].concat()
+}
+
+/// Sixteen files of doors with two rows of two reach words each, to any doors. If `idle` is not 0, each has a row more, of so many reach words
+/// to nodes that are no doors, in a state that nobody calls.
+pub fn random(size: usize, idle: u32) -> Vec<u32> {
+    let words = 7 + if idle > 0 { 1 + idle as usize } else { 0 };
+    let (each, mut draws) = (((size - 16) / 16 / words) as u32, Draws(size as u32));
     let files = (0..16).map(|site| {
         let mut body = Vec::new();
         for k in 0..each {
@@ -71,6 +98,10 @@ pub fn random(size: usize) -> Vec<u32> {
                 to.dedup();
                 body.push(ROW | q);
                 body.extend(to);
+            }
+            if idle > 0 {
+                body.push(ROW | 15);
+                body.extend((0..idle).map(|i| reach(16 * each + 16 * k + i, site)));
             }
         }
         file(7, site, body)

@@ -1,4 +1,4 @@
-//! Heavy valid inputs of each call, of about a given number of words.
+//! Heavy inputs of each call, of about a given number of words, valid but for those that a number is named for.
 mod bundles;
 mod parts;
 mod paths;
@@ -16,6 +16,8 @@ pub struct Ask {
     pub cuts: Vec<u8>,
     pub site: u32,
     pub calls: Vec<u8>,
+    /// What the call must answer.
+    pub number: u32,
 }
 
 pub struct Shape {
@@ -110,8 +112,12 @@ pub fn call_list() -> Vec<Shape> {
         shape("reach words to the last doors", |n| bundle(bundles::to_the_last(n))),
         shape("chain to the door before", |n| bundle(bundles::chain_back(n))),
         shape("pairs one by one", |n| bundle(bundles::pairs_back(n))),
-        shape("16 files at random", |n| bundle(bundles::random(n))),
+        shape("16 files at random", |n| bundle(bundles::random(n, 0))),
         shape("one row to all doors", |n| bundle(bundles::all_at_once(n))),
+        shape("16 files at random, idle links", |n| bundle(bundles::random(n, 6))),
+        shape("chain back through 16 files by turns", |n| bundle(bundles::chain_by_turns(n, 1))),
+        shape("chain back through 16 files by turns, ends nowhere (14)", |n| Ask { number: 14, ..bundle(bundles::chain_by_turns(n, 0)) }),
+        shape("two doors by turns, state after state", |n| bundle(bundles::state_after_state(n))),
     ]
 }
 

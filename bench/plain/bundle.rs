@@ -79,8 +79,8 @@ fn once(ws: &[u32], of: u32) -> Result<(), u32> {
     unless(13, ws.iter().all(|&w| kind(w) != of || seen.add(node(w))))
 }
 
-/// A bundle of first replies, all but 14.
-pub fn first_bundle_but_14(bytes: &[u8]) -> Outcome {
+/// A bundle of first replies. 14 comes with the search.
+pub fn first_bundle(bytes: &[u8]) -> Outcome {
     let ws = files(bytes, 7, first_words)?;
     headers(&ws)?;
     unless(7, ws.iter().filter(|&&w| kind(w) == 8 && w & ROOT_DOOR != 0).count() == 1)?;

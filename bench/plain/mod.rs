@@ -12,7 +12,7 @@ mod search;
 mod second_reply;
 
 pub use automaton::{path, Automaton};
-pub use bundle::first_bundle_but_14;
+pub use bundle::first_bundle;
 pub use call_list::call_list;
 pub use cut::cut;
 pub use files::{settle, Outcome};

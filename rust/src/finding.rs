@@ -2,6 +2,7 @@
 
 use crate::beside::{answer, Call};
 use crate::evaluation::groups::{read_groups, Groups, OURS};
+use crate::evaluation::hub::{read_first_bundle, FirstBundle};
 use crate::evaluation::path::{read_path, read_path_by, MayStand, Path};
 use crate::evaluation::words::*;
 use crate::evaluation::{Outcome, Room};
@@ -79,8 +80,21 @@ impl Made<'_> {
     }
 }
 
-/// The mistakes that a call finds out: an accepted one those in reading words, any one those in counting operands and in reading groups.
+/// The mistakes about strays by which a hub would give another outcome for this bundle, unless a check ahead of 14 refuses it.
+pub fn found_out_by_bundle(bundle: &[u8], outcome: &Outcome) -> Vec<&'static str> {
+    let differs = |bundle: &FirstBundle, hub: Hub| answer(&hub(bundle)) != answer(outcome);
+    read_first_bundle(bundle).map_or(vec![], |bundle| names(&STRAYS, |hub| differs(&bundle, *hub)))
+}
+
+/// The mistakes that a call finds out: an accepted one those in reading words, any one those in counting operands, in reading groups and
+/// about strays.
 pub fn found_out_by_call(call: &Call, room: Room, outcome: &Outcome) -> Vec<&'static str> {
+    if let Call::CallList { bundle } = call {
+        return match refused(outcome, &["buffers"]) {
+            true => vec![],
+            false => found_out_by_bundle(bundle, outcome),
+        };
+    }
     let made = Made { call, room, outcome };
     let [stopped, outside] = [&STOPPED[..], &OUTSIDE].map(|table| names(table, |taken| made.misread(*taken)));
     let waiting = names(&WAITING, |may_stand| made.miscounted(*may_stand));

@@ -6,4 +6,5 @@ pub mod finding;
 pub mod generate;
 pub mod mistakes;
 pub mod random;
+pub mod walking;
 pub mod written;

@@ -2,10 +2,13 @@
 //! of their cases would find one out.
 
 use crate::evaluation::groups::{Groups, OURS};
+use crate::evaluation::hub::FirstBundle;
 use crate::evaluation::path::{MayStand, MOST_WAITING};
+use crate::evaluation::replies::Pair;
 use crate::evaluation::words::*;
-use crate::evaluation::Outcome;
+use crate::evaluation::{call_list_of, check_result, Outcome};
 use crate::generate::path::{outside, range};
+use std::collections::BTreeSet;
 use std::ops::Range;
 
 /// A mistake with its name.
@@ -26,6 +29,8 @@ pub type ByTrip = fn(Groups) -> (Groups, Groups);
 pub type Mended = fn(&[u8]) -> Vec<u8>;
 /// Whether refused groups are passed over: by the outcome that the call has with ours, and by its path.
 pub type PassedOver = fn(&Outcome, &[u8]) -> bool;
+/// What a hub makes of first replies that have passed all checks up to 13.
+pub type Hub = fn(&FirstBundle) -> Outcome;
 
 /// Nodes that are stopped, by root and door bit.
 pub const STOPPED: [Named<Taken>; 3] = [
@@ -102,6 +107,40 @@ pub const PLACES: [Named<PassedOver>; 6] = [
     }),
 ];
 
+/// Nodes that are no doors, strays, and doors that are not found. A program that looks at every reach word, followed or not, is found out
+/// wherever one is that looks at those of one kind.
+pub const STRAYS: [Named<Hub>; 14] = [
+    ("14 for a stray of a door that is not called", |bundle| also_14(bundle, |called| !called)),
+    ("14 for a stray of a called door in another state", |bundle| also_14(bundle, |called| called)),
+    ("strays called like doors", |bundle| listed(bundle, &bundle.called())),
+    ("strays dropped from the set", |bundle| call_list_of(&dropped(bundle))),
+    ("strays dropped but for those of the root's row", |bundle| match bundle.rows.get(&bundle.root) {
+        Some(row) if has_strays(bundle, row) => refuse(14, "stray of the root"),
+        _ => call_list_of(&dropped(bundle)),
+    }),
+    ("a stray taken for the next door", |bundle| {
+        taken_for_door(bundle, |doors, node| doors.range(node..).next().copied())
+    }),
+    ("a stray taken for the next door of its sixteen nodes", |bundle| {
+        taken_for_door(bundle, |doors, node| doors.range(node..=node | 15).next().copied())
+    }),
+    ("a stray taken for the door before", |bundle| {
+        taken_for_door(bundle, |doors, node| doors.range(..node).next_back().copied())
+    }),
+    ("15 ahead of 14", |bundle| listed(bundle, &bundle.called()).and_then(|_| call_list_of(bundle))),
+    ("15 ahead of 14, strays not counted", |bundle| {
+        listed(bundle, &dropped(bundle).called()).and_then(|_| call_list_of(bundle))
+    }),
+    ("a door without rows not found", |bundle| {
+        not_found(bundle, |door| bundle.rows.range((door, 0)..(door + 1, 0)).next().is_none())
+    }),
+    ("the last door of sixteen not found", |bundle| {
+        not_found(bundle, |door| door % 16 == 15 && bundle.doors.range(door - 15..=door).count() == 16)
+    }),
+    ("door 0 not found", |bundle| not_found(bundle, |door| door == 0)),
+    ("door 65535 not found", |bundle| not_found(bundle, |door| door == 65_535)),
+];
+
 /// A label word that is refused.
 const NO_SORT: u32 = LABEL << 28 | 3 << 24;
 
@@ -176,6 +215,52 @@ pub fn ahead_of_groups(outcome: &Outcome) -> bool {
 fn by_last_check(outcome: &Outcome) -> bool {
     let last = |refusal: &Refusal| [("whole", 8), ("part", 7)].contains(&(refusal.input, refusal.number));
     outcome.as_ref().err().map_or(false, last)
+}
+
+fn listed(bundle: &FirstBundle, called: &BTreeSet<Pair>) -> Outcome {
+    check_result(bundle.call_list_words(called), FILE_LIMIT)
+}
+
+fn has_strays(bundle: &FirstBundle, row: &[Pair]) -> bool {
+    row.iter().any(|pair| bundle.is_stray(*pair))
+}
+
+/// 14 also for strays in rows that nobody follows, of doors that are called in other states, or of doors that are not.
+fn also_14(bundle: &FirstBundle, picked: fn(bool) -> bool) -> Outcome {
+    let all = bundle.called();
+    let called = |door: u32| all.range((door, 0)..(door + 1, 0)).next().is_some();
+    let mut idle = bundle.rows.iter().filter(|(pair, _)| !all.contains(pair));
+    match idle.any(|(pair, row)| picked(called(pair.0)) && has_strays(bundle, row)) {
+        true => refuse(14, "stray that nobody follows"),
+        false => call_list_of(bundle),
+    }
+}
+
+/// The bundle with other nodes for strays, or without these.
+fn with_strays(bundle: &FirstBundle, other: impl Fn(u32) -> Option<u32>) -> FirstBundle {
+    let taken = |pair: &Pair| match bundle.is_stray(*pair) {
+        true => other(pair.0).map(|node| (node, pair.1)),
+        false => Some(*pair),
+    };
+    let mut bundle = bundle.clone();
+    bundle.rows.values_mut().for_each(|row| *row = row.iter().filter_map(taken).collect());
+    bundle
+}
+
+fn dropped(bundle: &FirstBundle) -> FirstBundle {
+    with_strays(bundle, |_| None)
+}
+
+/// With a door for each stray, if one is found.
+fn taken_for_door(bundle: &FirstBundle, found: fn(&BTreeSet<u32>, u32) -> Option<u32>) -> Outcome {
+    call_list_of(&with_strays(bundle, |node| found(&bundle.doors, node).or(Some(node))))
+}
+
+/// With some doors taken for strays, but for the root.
+fn not_found(bundle: &FirstBundle, lost: impl Fn(u32) -> bool) -> Outcome {
+    let mut other = bundle.clone();
+    other.doors.retain(|door| *door == bundle.root.0 || !lost(*door));
+    call_list_of(&other)
 }
 
 /// The words as they are taken, if any is taken for another.

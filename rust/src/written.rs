@@ -9,6 +9,8 @@ use crate::random::Random;
 /// Document 01's plant and path.
 pub const W: &str = "10000007 20030001 30050002 20000002 30060003 20000003 30050002";
 pub const P: &str = "40300007 50005005 50006006 50005005 60000001 60000003 60000001";
+/// W with node 3 stopped.
+pub const STOPPED: &str = "10000007 20030001 30050002 20000002 30060003 20040003 30050002";
 pub const ONE_LABEL: &str = "40100002 50005005";
 pub const EMPTY_WORD: &str = "40000002 60000000";
 
@@ -120,6 +122,17 @@ pub fn dear_part(targets: u32) -> Vec<u8> {
     bytes_of(&part)
 }
 
+/// Two first replies: the root calls `first` pairs of the doors behind it, and door 1 calls `more` states of the last door.
+pub fn wide_bundle(first: u32, more: u32) -> Vec<u32> {
+    let last = 2 + first / 16;
+    let mut root = vec![0x70f0_0000 | (3 + first), 0x8001_0000, 0x9000_0000];
+    root.extend((0..first).map(|pair| 0xa000_0010 + pair));
+    let mut rest = vec![0x71f0_0000 | (2 + more + last), 0x8000_0001, 0x9000_0000];
+    rest.extend((0..more).map(|state| 0xa000_0000 | last << 4 | state));
+    rest.extend((2..=last).map(|door| 0x8000_0000 | door));
+    [root, rest].concat()
+}
+
 /// The files of a question over the cut 0, 1, 0, by site.
 pub struct Files {
     pub whole: &'static str,
@@ -146,6 +159,13 @@ pub const FILES: Files = Files {
 pub fn made_one_by_one(files: &Files, groups: Option<&Groups>, path: &str) {
     for site in 0..2 {
         gives(cut(files.whole, &[0, 1, 0], site as u32), files.parts[site]);
+    }
+    both_trips_one_by_one(files, groups, path);
+    gives(handed(old_search(files.whole, path), groups), files.list);
+}
+
+pub fn both_trips_one_by_one(files: &Files, groups: Option<&Groups>, path: &str) {
+    for site in 0..2 {
         gives(handed(first_reply(files.parts[site], path), groups), files.firsts[site]);
         gives(handed(second_reply(files.parts[site], path, files.calls), groups), files.seconds[site]);
     }
@@ -153,7 +173,6 @@ pub fn made_one_by_one(files: &Files, groups: Option<&Groups>, path: &str) {
         gives(call_list(&format!("{} {}", files.firsts[first], files.firsts[second])), files.calls);
         gives(join(&format!("{} {}", files.seconds[first], files.seconds[second])), files.list);
     }
-    gives(handed(old_search(files.whole, path), groups), files.list);
 }
 
 /// Whether a path of this one label word leads over a link with this label, by each call that reads paths.
@@ -170,33 +189,48 @@ pub fn crosses(groups: Option<&Groups>, word: u32, label: u32, held: bool) {
     gives(handed(second_reply(&whole, &path, "b0100002 c0000010"), groups), reply);
 }
 
-/// Runs a question over a cut of a whole, replies in order of site: the list and the first replies.
-pub fn question(
-    whole: &str,
-    cuts: &[u8],
-    sites: u32,
-    groups: Option<&Groups>,
-    path: &str,
-) -> (Vec<u32>, Vec<Vec<u32>>) {
-    let accepted = |call: Call| {
-        let call = handed(call, groups);
-        let (number, words) = made(&call);
-        assert_eq!(number, 0, "{call:x?}");
-        words
-    };
-    let parts: Vec<String> =
-        (0..sites).map(|site| hex(&bytes_of(&accepted(cut(whole, cuts, site))))).collect();
-    let firsts: Vec<Vec<u32>> = parts.iter().map(|part| accepted(first_reply(part, path))).collect();
-    let calls = hex(&bytes_of(&accepted(Call::CallList { bundle: bytes_of(&firsts.concat()) })));
-    let seconds: Vec<Vec<u32>> =
-        parts.iter().map(|part| accepted(second_reply(part, path, &calls))).collect();
-    (accepted(Call::Join { bundle: bytes_of(&seconds.concat()) }), firsts)
+/// The words of a call that is accepted, with these groups if it reads a path.
+fn accepted(call: Call, groups: Option<&Groups>) -> Vec<u32> {
+    let call = handed(call, groups);
+    let (number, words) = made(&call);
+    assert_eq!(number, 0, "{call:x?}");
+    words
 }
+
+/// The parts of these sites, 0 and on.
+pub fn parts_of(whole: &str, cuts: &[u8], sites: u32) -> Vec<String> {
+    let part = |site| hex(&bytes_of(&accepted(cut(whole, cuts, site), None)));
+    (0..sites).map(part).collect()
+}
+
+/// The joined list of a question, and its first replies in the order of the parts.
+pub type Asked = (Vec<u32>, Vec<Vec<u32>>);
+
+/// Runs a question over these parts, or tells the number under which the hub refuses its first bundle.
+pub fn ask(parts: &[String], groups: Option<&Groups>, path: &str) -> Result<Asked, u32> {
+    let firsts: Vec<Vec<u32>> = parts.iter().map(|part| accepted(first_reply(part, path), groups)).collect();
+    let (number, calls) = made(&Call::CallList { bundle: bytes_of(&firsts.concat()) });
+    if number != 0 {
+        return Err(number);
+    }
+    let calls = hex(&bytes_of(&calls));
+    let second = |part: &String| accepted(second_reply(part, path, &calls), groups);
+    let seconds: Vec<Vec<u32>> = parts.iter().map(second).collect();
+    Ok((accepted(Call::Join { bundle: bytes_of(&seconds.concat()) }, None), firsts))
+}
+
+/// The same over a cut of a whole, which is not refused.
+pub fn question(whole: &str, cuts: &[u8], sites: u32, groups: Option<&Groups>, path: &str) -> Asked {
+    ask(&parts_of(whole, cuts, sites), groups, path).expect("no link ends nowhere")
+}
+
+/// Cuts of a plant of three nodes.
+pub const CUTS: [[u8; 3]; 4] = [[0, 0, 0], [0, 1, 0], [0, 1, 2], [1, 0, 0]];
 
 /// The old search and the question over each of these cuts give this list of a plant of three nodes.
 pub fn lists(whole: &str, groups: Option<&Groups>, path: &str, list: &str) {
     gives(handed(old_search(whole, path), groups), list);
-    for cuts in [[0, 0, 0], [0, 1, 0], [0, 1, 2], [1, 0, 0]] {
+    for cuts in CUTS {
         assert_eq!(
             question(whole, &cuts, 3, groups, path).0,
             words(list),

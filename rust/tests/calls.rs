@@ -1,11 +1,11 @@
 //! Random and damaged inputs for every call, by the library and by the evaluation; every check of the documents must have refused some, and
-//! every mistake in reading stopped nodes and labels outside a range, in counting operands and in loading groups must have been found out by
-//! some.
+//! every mistake in reading stopped nodes and labels outside a range, in counting operands, in loading groups and about nodes that are no
+//! doors must have been found out by some.
 
 use mowqachi_tests::evaluation::words::Refusal;
 use mowqachi_tests::finding::found_out_by_call;
 use mowqachi_tests::generate::calls::{call, room};
-use mowqachi_tests::mistakes::{names, GROUPS, LOADED, OUTSIDE, PLACES, STOPPED, WAITING};
+use mowqachi_tests::mistakes::{names, GROUPS, LOADED, OUTSIDE, PLACES, STOPPED, STRAYS, WAITING};
 use mowqachi_tests::random::{cases, seed, Naming, Random};
 use std::collections::BTreeMap;
 
@@ -80,7 +80,7 @@ const FIRST: Checks = &[
     (7, "second root"),
     (7, "first bundle without root"),
     (7, "roots in two files"),
-    (14, "reach word's node is no door"),
+    (14, "called pair's node is no door"),
 ];
 const SECOND: Checks = &[(5, "no answer word"), (5, "answer zero bit"), (6, "answers")];
 const ROOM: Checks = &[(1, "output short"), (1, "working buffer short")];
@@ -101,9 +101,10 @@ const SECOND_REPLY: Inputs = &[("part", IN_PART), ("path", IN_PATH), ("call list
 fn mistakes(inputs: Inputs) -> Vec<&'static str> {
     let has = |wanted: &[&str]| inputs.iter().any(|(input, _)| wanted.contains(input));
     let (nodes, path, groups) = (has(&["part", "whole"]), has(&["path"]), has(&["groups"]));
+    let in_bundles = names(&STRAYS, |_| has(&["first bundle"]));
     let in_words = [names(&STOPPED, |_| nodes), names(&OUTSIDE, |_| path), names(&WAITING, |_| path)];
     let in_groups = [names(&GROUPS, |_| groups), names(&LOADED, |_| groups), names(&PLACES, |_| groups)];
-    [in_words, in_groups].concat().concat()
+    [&in_words[..], &in_groups, &[in_bundles]].concat().concat()
 }
 
 fn named(refusal: Option<&Refusal>) -> String {

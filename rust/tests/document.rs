@@ -6,9 +6,8 @@ use mowqachi_tests::evaluation::words::bytes_of;
 use mowqachi_tests::evaluation::Room;
 use mowqachi_tests::written::*;
 
-/// W with its root stopped, and with node 3 stopped.
+/// W with its root stopped.
 const ROOT_STOPPED: &str = "10000007 20070001 30050002 20000002 30060003 20000003 30050002";
-const STOPPED: &str = "10000007 20030001 30050002 20000002 30060003 20040003 30050002";
 /// P with 5 said as all labels but 6, and 6 as all but 5: on W's labels the same.
 const P_OUTSIDE: &str = "40300007 52006006 52005005 52006006 60000001 60000003 60000001";
 /// 5 then 6 then 5.
@@ -177,20 +176,9 @@ fn first_reply_at_its_limit() {
     }
 }
 
-/// The root calls `first` pairs of the doors behind it, and door 1 calls `more` states of the last door.
-fn wide_bundle(first: u32, more: u32) -> Vec<u8> {
-    let last = 2 + first / 16;
-    let mut root = vec![0x70f0_0000 | (3 + first), 0x8001_0000, 0x9000_0000];
-    root.extend((0..first).map(|pair| 0xa000_0010 + pair));
-    let mut rest = vec![0x71f0_0000 | (2 + more + last), 0x8000_0001, 0x9000_0000];
-    rest.extend((0..more).map(|state| 0xa000_0000 | last << 4 | state));
-    rest.extend((2..=last).map(|door| 0x8000_0000 | door));
-    bytes_of(&[root, rest].concat())
-}
-
 #[test]
 fn call_list_at_its_limit() {
-    let list = |more| Call::CallList { bundle: wide_bundle(4093, more) };
+    let list = |more| Call::CallList { bundle: bytes_of(&wide_bundle(4093, more)) };
     let (number, words) = made(&list(1));
     assert_eq!((number, words.len(), words[0]), (0, 4096, 0xb0f0_1000));
     refuses(list(2), 15);

@@ -1,13 +1,18 @@
-//! The evaluation's own meaning of label words and expressions, by methods that must agree.
+//! The evaluation's own meaning of label words and expressions, by methods that must agree, and what it takes for a true cut.
 
-use mowqachi_tests::evaluation::groups::OURS;
-use mowqachi_tests::evaluation::meaning::{listed_by_flow, listed_by_relation};
+use mowqachi_tests::evaluation::groups::{Groups, OURS};
+use mowqachi_tests::evaluation::meaning::{
+    listed_by_flow, listed_by_relation, stepped_on_by_flow, stepped_on_by_relation,
+};
+use mowqachi_tests::evaluation::part::Part;
 use mowqachi_tests::evaluation::path::{read_path, Expression, Path};
+use mowqachi_tests::evaluation::plant::Plant;
 use mowqachi_tests::evaluation::states::States;
 use mowqachi_tests::evaluation::words::bytes_of;
 use mowqachi_tests::finding::found_out_by_path;
 use mowqachi_tests::generate::groups::{grouped, groups, naming};
 use mowqachi_tests::generate::path::{alphabet, label_word, or_of, path};
+use mowqachi_tests::generate::question::small;
 use mowqachi_tests::mistakes::{GROUPS, OUTSIDE};
 use mowqachi_tests::random::{cases, seed, Random};
 use std::collections::BTreeSet;
@@ -56,22 +61,30 @@ fn derivative(expression: &Expression, holds: &dyn Fn(usize) -> bool) -> Derived
     }
 }
 
-/// Whether the labels, in order, are a word of the path's expression.
-fn word_by_derivatives(path: &Path, word: &[u32]) -> bool {
+/// What is left of the path's expression behind these labels; nothing, if its positions cannot read them all.
+fn left_by_derivatives(path: &Path, word: &[u32]) -> Derived {
     let step = |expression: Expression, label: &u32| {
         derivative(&expression, &|position| path.holds(position, *label))
     };
-    let left = word.iter().try_fold(path.expression.clone(), step);
-    left.map_or(false, |rest| has_empty_word(&rest))
+    word.iter().try_fold(path.expression.clone(), step)
+}
+
+/// Whether the labels, in order, are a word of the path's expression.
+fn word_by_derivatives(path: &Path, word: &[u32]) -> bool {
+    left_by_derivatives(path, word).map_or(false, |left| has_empty_word(&left))
+}
+
+/// The states to which runs over the word lead.
+fn run_over(path: &Path, states: &States, word: &[u32]) -> BTreeSet<usize> {
+    let step = |at: BTreeSet<usize>, label: &u32| -> BTreeSet<usize> {
+        at.into_iter().flat_map(|q| states.after(path, q, *label)).collect()
+    };
+    word.iter().fold(BTreeSet::from([0]), step)
 }
 
 /// The same by the states: some run over the word ends in an accepting one.
 fn word_by_states(path: &Path, states: &States, word: &[u32]) -> bool {
-    let mut at = BTreeSet::from([0]);
-    for label in word {
-        at = at.into_iter().flat_map(|q| states.after(path, q, *label)).collect();
-    }
-    at.into_iter().any(|q| states.accepts[q])
+    run_over(path, states, word).into_iter().any(|q| states.accepts[q])
 }
 
 /// The same by walks over a chain of nodes with the word's labels between them.
@@ -104,6 +117,16 @@ fn labels() {
     }
 }
 
+/// A path of at most so many operands over an alphabet of its own, every other one with groups of its own.
+fn drawn_path(random: &mut Random, case: u64, most: usize) -> (Vec<u32>, Vec<u32>, Option<Groups>, Path) {
+    let alphabet = alphabet(random);
+    let operands = random.between(1, most);
+    let words = path(random, &alphabet, operands);
+    let (groups, words) = grouped(random, &alphabet, words, case % 2 == 0);
+    let path = read_path(&bytes_of(&words), &groups.unwrap_or(OURS)).expect("a path");
+    (alphabet, words, groups, path)
+}
+
 /// Goes on for a while if a mistake in reading labels or groups has not been found out.
 #[test]
 fn words() {
@@ -111,11 +134,7 @@ fn words() {
     let mistakes = OUTSIDE.len() + GROUPS.len();
     while case < wanted || case < wanted + 10_000 && found.len() < mistakes {
         let mut random = Random::new(seed(), "words", case);
-        let alphabet = alphabet(&mut random);
-        let operands = random.between(1, 6);
-        let words = path(&mut random, &alphabet, operands);
-        let (groups, words) = grouped(&mut random, &alphabet, words, case % 2 == 0);
-        let path = read_path(&bytes_of(&words), &groups.unwrap_or(OURS)).expect("a path");
+        let (alphabet, words, groups, path) = drawn_path(&mut random, case, 6);
         let states = States::of(&path);
         for length in 0..6 {
             let word: Vec<u32> = (0..length).map(|_| random.pick(&alphabet)).collect();
@@ -132,20 +151,107 @@ fn words() {
     assert_eq!(found.len(), mistakes, "only these mistakes are found out: {found:?}");
 }
 
+/// A link is walked where some run goes over the labels before it and its own: the last of a chain, by four methods.
+#[test]
+fn steps() {
+    let mut stepped = [0, 0];
+    for case in 0..cases() * 3 / 100 {
+        let mut random = Random::new(seed(), "steps", case);
+        let (alphabet, _, _, path) = drawn_path(&mut random, case, 6);
+        let states = States::of(&path);
+        let before: Vec<u32> = (0..random.below(5)).map(|_| random.pick(&alphabet)).collect();
+        let (label, links) = (random.pick(&alphabet), chain(&before));
+        let word = [&before[..], &[label]].concat();
+        let steps = left_by_derivatives(&path, &word).is_some();
+        stepped[usize::from(steps)] += 1;
+        assert_eq!(!run_over(&path, &states, &word).is_empty(), steps, "{path:?} {word:?}");
+        for stepped_on in [stepped_on_by_relation, stepped_on_by_flow] {
+            assert_eq!(stepped_on(&path, &links, 0, &[(label, before.len())]), [steps], "{path:?} {word:?}");
+        }
+    }
+    assert!(stepped.iter().all(|count| *count > cases() / 200), "too few of one sort: {stepped:?}");
+}
+
 #[test]
 fn lists() {
     for case in 0..cases() * 2 / 100 {
         let mut random = Random::new(seed(), "lists", case);
-        let alphabet = alphabet(&mut random);
-        let operands = random.between(1, 15);
-        let words = path(&mut random, &alphabet, operands);
-        let (groups, words) = grouped(&mut random, &alphabet, words, case % 2 == 0);
-        let path = read_path(&bytes_of(&words), &groups.unwrap_or(OURS)).expect("a path");
+        let (alphabet, _, _, path) = drawn_path(&mut random, case, 15);
         let count = random.between(1, 20);
         let link = |random: &mut Random| (random.pick(&alphabet), random.below(count));
         let mut node = || (0..random.below(4)).map(|_| link(&mut random)).collect();
         let links: Vec<Vec<(u32, usize)>> = (0..count).map(|_| node()).collect();
         let root = random.below(count);
         assert_eq!(listed_by_relation(&path, &links, root), listed_by_flow(&path, &links, root));
+        let further: Vec<(u32, usize)> = (0..random.below(5)).map(|_| link(&mut random)).collect();
+        let [by_relation, by_flow] = [stepped_on_by_relation, stepped_on_by_flow]
+            .map(|stepped_on| stepped_on(&path, &links, root, &further));
+        assert_eq!(by_relation, by_flow);
     }
+}
+
+/// One node of one part changed, so that the parts are no true cut any more; false where this node cannot be changed so.
+type Damage = fn(&Plant, &mut Vec<Part>, usize, usize) -> bool;
+
+const DAMAGES: [Damage; 7] = [
+    |_, parts, part, _| {
+        parts[part].site = parts[0].site;
+        part > 0
+    },
+    |_, parts, part, node| {
+        parts[part].nodes.remove(node);
+        true
+    },
+    |_, parts, part, node| {
+        let node = &mut parts[part].nodes[node];
+        node.root = !node.root;
+        true
+    },
+    |_, parts, part, node| {
+        let node = &mut parts[part].nodes[node];
+        node.stopped = !node.stopped;
+        true
+    },
+    |plant, parts, part, node| {
+        let edges = &mut parts[part].nodes[node].edges;
+        let before = edges.len();
+        edges.retain(|edge| !plant.nodes.contains_key(&edge.1));
+        edges.len() < before
+    },
+    |plant, parts, part, node| {
+        let node = &mut parts[part].nodes[node];
+        let edge = (4094, plant.root);
+        node.edges.push(edge);
+        !plant.nodes[&node.number].contains(&edge)
+    },
+    |plant, parts, part, node| {
+        let number = parts[part].nodes[node].number;
+        parts[part].nodes[node].door = false;
+        parts.iter().any(|other| other.outside_targets().contains(&number))
+            && plant.nodes.contains_key(&number)
+    },
+];
+
+/// Parts of questions are a true cut, whatever links end nowhere, and no longer once one of them is changed.
+#[test]
+fn true_cuts() {
+    let mut damaged = [0; DAMAGES.len()];
+    for case in 0..cases() * 2 / 100 {
+        let mut random = Random::new(seed(), "true cuts", case);
+        let question = small(&mut random);
+        assert!(question.plant.is_cut_into(&question.parts), "{question:?}");
+        let part = random.below(question.parts.len());
+        if question.parts[part].nodes.is_empty() {
+            continue;
+        }
+        let node = random.below(question.parts[part].nodes.len());
+        for (at, damage) in DAMAGES.iter().enumerate() {
+            let mut parts = question.parts.clone();
+            if damage(&question.plant, &mut parts, part, node) {
+                damaged[at] += 1;
+                assert!(!question.plant.is_cut_into(&parts), "damage {at} of {question:?}");
+            }
+        }
+    }
+    assert!(damaged.iter().all(|count| *count > cases() / 1000), "too few of one sort: {damaged:?}");
 }

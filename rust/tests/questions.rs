@@ -1,30 +1,35 @@
-//! Demand 3: whole questions over random plants, true cuts, paths, groups and orders, run by the library and held to the evaluation.
+//! Demand 3: whole questions over random plants, true cuts, paths, groups and orders, run by the library and held to the evaluation. Plants
+//! and parts may have links that end nowhere, walked or not.
 
-use mowqachi_tests::beside::Call;
-use mowqachi_tests::evaluation::groups::{Groups, OURS};
+use mowqachi_tests::beside::{answer, Call};
+use mowqachi_tests::evaluation::groups::Groups;
+use mowqachi_tests::evaluation::hub::read_first_bundle;
 use mowqachi_tests::evaluation::part::Part;
-use mowqachi_tests::evaluation::path::{read_path, Path};
+use mowqachi_tests::evaluation::path::Path;
 use mowqachi_tests::evaluation::plant::Plant;
-use mowqachi_tests::evaluation::replies::{second_reply_words, Pair};
-use mowqachi_tests::evaluation::states::States;
+use mowqachi_tests::evaluation::replies::{first_reply_words, pair_word, second_reply_words, Pair};
 use mowqachi_tests::evaluation::words::*;
-use mowqachi_tests::finding::found_out_by_path;
+use mowqachi_tests::finding::{found_out_by_bundle, found_out_by_path};
 use mowqachi_tests::generate::plant::node;
 use mowqachi_tests::generate::question::{question, Question};
-use mowqachi_tests::mistakes::{names, ByTrip, GROUPS, OUTSIDE, TRIPS};
+use mowqachi_tests::mistakes::{names, ByTrip, GROUPS, OUTSIDE, STRAYS, TRIPS};
 use mowqachi_tests::random::{cases, seed, Naming, Random};
+use mowqachi_tests::walking::{idle, strays, walks, without_strays, IDLE};
 use std::collections::{BTreeMap, BTreeSet};
 
 /// How a question may end, and what must have been asked about.
-const ENDS: [&str; 8] = [
+const ENDS: [&str; 11] = [
     "joined",
     "joined, further doors",
     "joined, sixteen sites",
     "joined, plant over one file",
     "first reply over its limit",
+    "first reply over its limit by links that nobody walks",
     "call list over its limit",
     "first bundle over its limit",
     "second bundle over its limit",
+    "a walked link ends nowhere",
+    "a walked link ends nowhere, call list over its limit",
 ];
 
 /// Stopped nodes whose bit a search might ignore, and what its list would then have besides: these nodes, or running ones behind them. Each
@@ -34,11 +39,6 @@ const IGNORED: [[&str; 2]; 3] = [
     ["stopped door called and listed", "stopped door called and left"],
     ["stopped node inside a part listed", "stopped node inside a part left"],
 ];
-
-/// The question's path as it is read by these groups.
-fn path_by(question: &Question, groups: &Groups) -> Path {
-    read_path(&bytes_of(&question.path), groups).expect("paths are made right")
-}
 
 /// The groups and the path that the question's calls are handed.
 fn handed(question: &Question) -> (Option<Vec<u8>>, Vec<u8>) {
@@ -65,33 +65,10 @@ fn check_traffic(part: &Part, n: usize, reply: &[u32]) {
     assert!(reach <= bound, "{reach} reach words, bound {bound}");
 }
 
-/// The root with 0, and the pairs in which walks of the plant from its root cross between parts: into stopped nodes too, of which the part
-/// before cannot know, but from there no further.
-fn crossings(question: &Question, path: &Path) -> BTreeSet<Pair> {
-    let states = States::of(path);
-    let sites: BTreeMap<u32, u32> = question
-        .parts
-        .iter()
-        .flat_map(|part| part.nodes.iter().map(|node| (node.number, part.site)))
-        .collect();
-    let root = (question.plant.root, 0);
-    let (mut seen, mut calls) = (BTreeSet::from([root]), BTreeSet::from([root]));
-    let mut waiting = vec![root];
-    while let Some((node, q)) = waiting.pop() {
-        if question.plant.stopped.contains(&node) {
-            continue;
-        }
-        for (label, target) in &question.plant.nodes[&node] {
-            for p in states.after(path, q, *label) {
-                let pair = (*target, p);
-                calls.extend((sites[&node] != sites[target]).then_some(pair));
-                if seen.insert(pair) {
-                    waiting.push(pair);
-                }
-            }
-        }
-    }
-    calls
+/// Whether the part owes a reply over its limit because of links that end nowhere, none of which is walked.
+fn over_by_strays(question: &Question, part: &Part, path: &Path) -> bool {
+    let without = first_reply_words(&without_strays(question, part), path);
+    without.len() <= FILE_LIMIT && question.plant.walked(path, &strays(question)).is_empty()
 }
 
 fn first_trip(random: &mut Random, question: &Question, path: &Path) -> Result<Vec<Vec<u32>>, &'static str> {
@@ -106,38 +83,61 @@ fn first_trip(random: &mut Random, question: &Question, path: &Path) -> Result<V
             }
             Err(refusal) => {
                 assert_eq!(refusal.number, 15);
-                return Err("first reply over its limit");
+                return Err(match over_by_strays(question, part, path) {
+                    true => "first reply over its limit by links that nobody walks",
+                    false => "first reply over its limit",
+                });
             }
         }
     }
     Ok(replies)
 }
 
+/// The call list that the hub owes, however long, and whether it has pairs where no node is: just if some part has a link that ends nowhere
+/// and is walked. What is walked comes from what expressions mean, and the pairs from states.
+fn owed_calls(question: &Question, path: &Path) -> (Vec<u32>, bool) {
+    let crossings = walks(question, path).crossings;
+    let walked = question.plant.walked(path, &strays(question));
+    let no_nodes =
+        crossings.iter().map(|pair| pair.0).filter(|node| !question.plant.nodes.contains_key(node));
+    let ends: BTreeSet<u32> = walked.iter().map(|link| link.2).collect();
+    assert_eq!(no_nodes.collect::<BTreeSet<_>>(), ends, "where no node is");
+    let words: Vec<u32> = crossings.iter().map(|pair| pair_word(CALL, *pair)).collect();
+    (file(CALLS, 0, path.n() as u32, &words), !walked.is_empty())
+}
+
+/// The hub's answer to a bundle within its limit: 14 exactly if a link that ends nowhere is walked; else the list that is owed, or 15 for it.
 fn call_list(
     random: &mut Random,
     question: &Question,
     path: &Path,
     replies: &[Vec<u32>],
+    noted: &mut Vec<&'static str>,
 ) -> Result<Vec<u32>, &'static str> {
     let bundle = bundle(random, replies);
-    let over = bundle.len() > 4 * BUNDLE_LIMIT;
-    let made = made(random, Call::CallList { bundle });
-    if over {
-        assert_eq!(made.expect_err("the bundle is too long").number, 2);
-        return Err("first bundle over its limit");
+    let outcome = made(random, Call::CallList { bundle: bundle.clone() });
+    let (number, list) = answer(&outcome);
+    if bundle.len() > 4 * BUNDLE_LIMIT {
+        return refused(number, 2, "first bundle over its limit");
     }
-    let owed: Vec<u32> =
-        crossings(question, path).into_iter().map(|(node, p)| CALL << 28 | node << 4 | p as u32).collect();
-    match made {
-        Ok(list) => {
-            assert_eq!(list, file(CALLS, 0, path.n() as u32, &owed));
+    noted.extend(found_out_by_bundle(&bundle, &outcome));
+    let (owed, walked) = owed_calls(question, path);
+    match (walked, owed.len() > FILE_LIMIT) {
+        (true, true) => refused(number, 14, "a walked link ends nowhere, call list over its limit"),
+        (true, false) => refused(number, 14, "a walked link ends nowhere"),
+        (false, true) => refused(number, 15, "call list over its limit"),
+        (false, false) => {
+            assert_eq!((number, &list), (0, &owed));
+            noted.extend(idle(question, path, &read_first_bundle(&bundle).expect("honest replies")));
             Ok(list)
         }
-        Err(refusal) => {
-            assert!(refusal.number == 15 && owed.len() + 1 > FILE_LIMIT);
-            Err("call list over its limit")
-        }
     }
+}
+
+/// The end of a question that this number is due to.
+fn refused<T>(number: u32, due: u32, end: &'static str) -> Result<T, &'static str> {
+    assert_eq!(number, due, "{end}");
+    Err(end)
 }
 
 fn second_trip(random: &mut Random, question: &Question, calls: &[u32]) -> Vec<Vec<u32>> {
@@ -150,22 +150,36 @@ fn second_trip(random: &mut Random, question: &Question, calls: &[u32]) -> Vec<V
 }
 
 /// The plant as one file, if it fits.
-fn one_file(question: &Question) -> Option<Vec<u32>> {
-    let nodes = question.plant.nodes.keys().map(|number| node(&question.plant, *number, false));
+fn one_file(plant: &Plant) -> Option<Vec<u32>> {
+    let nodes = plant.nodes.keys().map(|number| node(plant, *number, false));
     let whole = Part { site: 0, nodes: nodes.collect() };
     Some(whole.words()).filter(|words| words.len() <= FILE_LIMIT)
 }
 
+/// The old search gives the same list for the plant with the links that end nowhere left out. With them it gives 8, and so does the cutter.
+fn check_old(random: &mut Random, question: &Question, list: &[u32]) {
+    let ((groups, path), plant) = (handed(question), &question.plant);
+    let mut old_search = |whole: &[u32]| {
+        let call = Call::OldSearch { whole: bytes_of(whole), groups: groups.clone(), path: path.clone() };
+        answer(&made(random, call))
+    };
+    if let Some(whole) = one_file(&plant.left_out()) {
+        assert_eq!(old_search(&whole), (0, list.to_vec()), "the old search's list");
+    }
+    let open = plant.links().iter().any(|link| plant.ends_nowhere(link));
+    if let Some(whole) = one_file(plant).filter(|_| open) {
+        assert_eq!(old_search(&whole).0, 8);
+        let cut = Call::Cut { whole: bytes_of(&whole), cuts: vec![0; plant.nodes.len()], site: 0 };
+        assert_eq!(answer(&made(random, cut)).0, 8);
+    }
+}
+
 fn check_list(random: &mut Random, question: &Question, path: &Path, list: &[u32], seconds: &[Vec<u32>]) {
-    assert_eq!(list, question.plant.search(path), "demand 2's list");
+    assert_eq!(list, question.plant.left_out().search(path), "demand 2's list");
     let mut answers: Vec<u32> = seconds.iter().flat_map(|reply| reply[1..].to_vec()).collect();
     answers.sort();
     assert_eq!(answers, list[1..], "the second replies hold the listed nodes, each once");
-    if let Some(whole) = one_file(question) {
-        let (whole, (groups, path)) = (bytes_of(&whole), handed(question));
-        let old = made(random, Call::OldSearch { whole, groups, path });
-        assert_eq!(old.expect("the plant fits one file"), list, "the old search's list");
-    }
+    check_old(random, question, list);
 }
 
 /// What of `IGNORED` the question holds. The hub calls stopped doors like others.
@@ -191,12 +205,13 @@ fn ignored(plant: &Plant, path: &Path, calls: &[u32], list: &[u32]) -> Vec<&'sta
     found
 }
 
-/// The answers of sites that read the path by these groups in the first trip and in the second.
-fn answers_by(question: &Question, first: &Groups, second: &Groups) -> BTreeSet<u32> {
-    let calls: Vec<Pair> = crossings(question, &path_by(question, first)).into_iter().collect();
-    let path = path_by(question, second);
+/// The answers of sites that read the path by these groups in the first trip and in the second; none where the hub gives 14.
+fn answers_by(question: &Question, first: &Groups, second: &Groups) -> Option<BTreeSet<u32>> {
+    let calls: Vec<Pair> = walks(question, &question.path_by(first)).crossings.into_iter().collect();
+    let path = question.path_by(second);
     let reply = |part: &Part| second_reply_words(part, &path, &calls)[1..].to_vec();
-    question.parts.iter().flat_map(reply).collect()
+    let at_nodes = calls.iter().all(|pair| question.plant.nodes.contains_key(&pair.0));
+    at_nodes.then(|| question.parts.iter().flat_map(reply).collect())
 }
 
 /// The mistakes of `TRIPS` by which the joined list would be another.
@@ -204,20 +219,21 @@ fn trips(question: &Question, list: &[u32]) -> Vec<&'static str> {
     let owed: BTreeSet<u32> = list[1..].iter().copied().collect();
     let differs = |groups: Groups, by_trip: ByTrip| {
         let (first, second) = by_trip(groups);
-        answers_by(question, &first, &second) != owed
+        answers_by(question, &first, &second).as_ref() != Some(&owed)
     };
     names(&TRIPS, |by_trip| question.groups.map_or(false, |groups| differs(groups, *by_trip)))
 }
 
-/// Runs one question to its end, and notes what of `IGNORED` it holds and which mistakes its list finds out.
+/// Runs one question to its end, and notes what of `IGNORED` and `IDLE` it holds and which mistakes it finds out.
 fn ask(
     random: &mut Random,
     question: &Question,
     noted: &mut Vec<&'static str>,
 ) -> Result<&'static str, &'static str> {
-    let path = path_by(question, &question.groups.unwrap_or(OURS));
+    let path = question.read_path();
+    assert!(question.plant.is_cut_into(&question.parts), "questions have true cuts");
     let firsts = first_trip(random, question, &path)?;
-    let calls = call_list(random, question, &path, &firsts)?;
+    let calls = call_list(random, question, &path, &firsts, noted)?;
     let seconds = second_trip(random, question, &calls);
     let bundle = bundle(random, &seconds);
     let over = bundle.len() > 4 * BUNDLE_LIMIT;
@@ -235,7 +251,7 @@ fn ask(
     let crossed: BTreeSet<u32> = question.parts.iter().flat_map(Part::outside_targets).collect();
     let further = |part: &Part| part.doors().any(|door| !door.root && !crossed.contains(&door.number));
     Ok(match () {
-        () if one_file(question).is_none() => "joined, plant over one file",
+        () if one_file(&question.plant).is_none() => "joined, plant over one file",
         () if question.parts.len() == 16 => "joined, sixteen sites",
         () if question.parts.iter().any(further) => "joined, further doors",
         () => "joined",
@@ -244,9 +260,11 @@ fn ask(
 
 /// Makes this share of the cases, and goes on for a while if something has not been met.
 fn run(stream: &'static str) {
-    let mistakes = [names(&OUTSIDE, |_| true), names(&GROUPS, |_| true), names(&TRIPS, |_| true)].concat();
+    let in_words = [names(&OUTSIDE, |_| true), names(&GROUPS, |_| true), names(&TRIPS, |_| true)].concat();
+    let mistakes = [in_words, names(&STRAYS, |_| true)].concat();
+    let held = IGNORED.iter().flatten().chain(&IDLE);
     let mut seen: BTreeMap<&str, u64> =
-        ENDS.iter().chain(IGNORED.iter().flatten()).chain(&mistakes).map(|what| (*what, 0)).collect();
+        ENDS.iter().chain(held).chain(&mistakes).map(|what| (*what, 0)).collect();
     let wanted = cases() * 6 / 100;
     let mut made = 0;
     while made < wanted || made < wanted + 20_000 && seen.values().any(|count| *count == 0) {

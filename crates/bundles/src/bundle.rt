@@ -1,7 +1,6 @@
 // A bundle, read file by file: the reader is handed the bundle's part from the current start, and learns the next start.
 use crate::overall::check_headers;
 use crate::overall::check_roots;
-use crate::overall::check_strays;
 use crate::overall::check_twice;
 use files::field::size;
 use files::limits::BUNDLE_WORDS;
@@ -120,18 +119,14 @@ fn check_each(bundle: &[u8], trip: Trip) -> u32
     check_files(bundle, trip)
 }
 
-// Over all files of a bundle of first replies: 12, 7, 13, 14.
+// Over all files of a bundle of first replies: 12, 7, 13.
 fn check_first_over(bundle: &[u8], work: &mut [u8]) -> u32
     requires { ⌜ nodeSetBytes ≤ length (now work) ⌝ }
     ensures { λ r. ⌜ r ≡ firstOverCheck (words (now (bundle .entry))) ⌝ }
     ensures { λ _. ⌜ length (now (work .exit)) ≡ length (now (work .entry)) ⌝ }
 {
     let twice = check_twice(bundle, work, 8);
-    let n = first(check_headers(bundle), first(check_roots(bundle), twice));
-    if n != 0 {
-        return n;
-    }
-    check_strays(bundle)
+    first(check_headers(bundle), first(check_roots(bundle), twice))
 }
 
 // Over all files of a bundle of second replies: 12, 13.

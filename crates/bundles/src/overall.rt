@@ -8,8 +8,6 @@ use files::field::node;
 use files::field::site;
 use files::field::size;
 use files::refuse::refuse;
-use files::reply::is_door_of;
-use files::reply::is_reach;
 use files::word::word_at;
 use kinds::count::Mark;
 use kinds::count::count_kind;
@@ -23,15 +21,14 @@ ghost use mathlib.Core.List.{map};
 ghost use Prim.Native.Nat.{suc, _-_, _≤_};
 ghost use lib.Dec.{eqb};
 ghost use lib.ListN.{length};
-ghost use Rattle.sets.specs.Sets.{any, filter};
+ghost use Rattle.sets.specs.Sets.{filter};
 ghost use Rattle.sets.specs.NodeSet.{nodeSetBytes};
 ghost use Rattle.files.specs.Word.{words};
 ghost use Rattle.files.specs.Refuse.{_unless_};
 ghost use Rattle.files.specs.Outcome.{zeros};
-ghost use Rattle.files.specs.Field.{kindOf, sizeOf, nodeOf, pairOf, pairNode};
+ghost use Rattle.files.specs.Field.{kindOf, sizeOf, nodeOf};
 ghost use Rattle.files.specs.Reply.{roots};
-ghost use Rattle.files.specs.Bundle.{headers, headersCheck, twice, strays};
-ghost use Rattle.bundles.specs.Seek.{FirstThat};
+ghost use Rattle.files.specs.Bundle.{headers, headersCheck, twice};
 ghost use Rattle.bundles.specs.Stretch.{clashing};
 
 // Whether a header's site was seen, or its n is another.
@@ -110,45 +107,4 @@ pub fn check_twice(bundle: &[u8], work: &mut [u8], k: u32) -> u32
 {
     clear(work);
     refuse(13, !has_twice(bundle, work, k))
-}
-
-// The node of a reach word.
-fn reach_node(w: u32) -> u32
-    ensures { λ r. ⌜ r ≡ pairNode (pairOf w) ⌝ }
-{
-    w % 0x10_0000 / 16
-}
-
-// The index of the first reach word whose node is no door, or the number of words: there the scan stops.
-fn first_stray(bundle: &[u8]) -> usize
-    ensures { λ r. ⌜ FirstThat (strays (words (now (bundle .entry)))) (words (now (bundle .entry))) r ⌝ }
-{
-    let count = bundle.len() / 4;
-    let mut i = 0;
-    'words: while i < count {
-        let w = word_at(bundle, i);
-        if is_reach(w) {
-            let x = reach_node(w);
-            let mut k = 0;
-            loop {
-                if k == count {
-                    break 'words;
-                }
-                if is_door_of(x, word_at(bundle, k)) {
-                    break;
-                }
-                k += 1;
-            }
-        }
-        i += 1;
-    }
-    i
-}
-
-// 14: a reach word's node is no door.
-pub fn check_strays(bundle: &[u8]) -> u32
-    ensures { λ r. ⌜ r ≡ (14 unless not (any (strays (words (now (bundle .entry)))) (words (now (bundle .entry))))) ⌝ }
-{
-    let i = first_stray(bundle);
-    refuse(14, !(i < bundle.len() / 4))
 }

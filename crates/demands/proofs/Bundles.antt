@@ -1,29 +1,28 @@
 -- A plant's true cut: what all sites write of it makes bundles that the hub accepts, in any order, and what stands in them.
 -- Assumes nothing.
-use mathlib.Core.Path.{_≡_, refl, sym, _∙_, ap, subst}
+use mathlib.Core.Path.{_≡_, refl, sym, _∙_, ap}
 use mathlib.Core.Logic.{_↔_}
 use mathlib.Core.Bool.{_&&_}
 use mathlib.Core.List.{List, [], _∷_, map, flatten, Memᴰ·map, List·Memᴰ·not-nil}
 use Prim.Native.Nat.{ℕ, _≤_}
 use native.Mathlib.Omega.{arith}
-use lib.Dec.{T}
 use lib.ListN.{length, drop, getD}
 use Rattle.sets.specs.Sets.{Mem, here, there, Perm, Distinct}
 use Rattle.sets.proofs.Sets.{mem-dec, flatten-map-iff}
 use Rattle.sets.proofs.Lengths.{ascending-distinct}
 use Rattle.sets.proofs.Perm.{perm-same, perm-map}
 use Rattle.sets.proofs.Distinct.{distinct-flatten, perm-distinct}
-use Rattle.files.specs.Field.{siteOf, labelsOf, nodeOf, doorRootOf, labelOf, pairOf, pairNode, pairState}
+use Rattle.files.specs.Field.{siteOf, labelsOf, nodeOf, doorRootOf, pairNode, pairState}
 use Rattle.files.specs.Part.{nodes, partCheck}
 use Rattle.files.specs.Part as part
 use Rattle.files.specs.Path.{pathCheck}
-use Rattle.files.specs.Reply.{isDoorWord, isReach, replyCheck, doors, roots, rows}
+use Rattle.files.specs.Reply.{isDoorWord, replyCheck, doors, roots, rows}
 use Rattle.files.specs.Answers.{isAnswer, answersOf, answersCheck}
 use Rattle.files.proofs.Fields.{pair-eta}
 use Rattle.files.proofs.Blocks.{roots-nodes, doors-nodes}
 use Rattle.files.proofs.Parts.{doors-ascending, roots-ascending}
 use Rattle.files.proofs.Files.{Made}
-use Rattle.files.proofs.Bundles.{Firsts, Seconds, made-replies, made-chosen, file-reach}
+use Rattle.files.proofs.Bundles.{Firsts, Seconds, made-replies, made-chosen}
 use Rattle.files.proofs.Rows.{rows-none}
 use Rattle.expressions.specs.Labels.{exprOf}
 use Rattle.first_replies.specs.FirstReply.{reported, firstReply}
@@ -31,7 +30,7 @@ use Rattle.site_second.specs.Second.{secondReply}
 use Rattle.first_replies.proofs.FirstReplies as first
 use Rattle.site_second.proofs.SecondReplies as second
 use Rattle.hub_calls.proofs.CallLists as calls
-use Rattle.demands.specs.Plant.{Plant, OneRoot, Closed, HasEdge, TrueCut, body}
+use Rattle.demands.specs.Plant.{Plant, OneRoot, TrueCut, body}
 
 -- a true cut is one in any order
 pub cut-perm : {p : Plant} {parts parts′ : List (List ℕ)} → Perm parts′ parts → TrueCut p parts → TrueCut p parts′
@@ -85,16 +84,6 @@ module _ (p : Plant) (parts : List (List ℕ)) (cut : TrueCut p parts) where
       (flatten-map-iff (λ f. part.roots (body f)) (one .root) parts .1 (h .0, h .1, cut .holds (h .0) (h .1) .has-root (one .root) (h .2) (one .is)))
       (λ x m. let k = flatten-map-iff (λ f. part.roots (body f)) x parts .0 m in one .only x (cut .holds (k .0) (k .1) .is-root x (k .2)))
 
-  -- the target of a part's edge that is no node of the part is a door of another
-  target-door : Closed p → (f : List ℕ) → Mem f parts → (x a y : ℕ) → HasEdge f x a y → (Mem y (nodes (body f)) → ⊥) → Mem y cutDoors
-  target-door closed f m x a y e n =
-      let h = cut .every y (closed x a y (cut .holds f m .is-link x a y e)) in
-      flatten-map-iff (λ f. part.doors (body f)) y parts .1 (
-        h .0,
-        h .1,
-        cut .crossed x a y f (h .0) m (h .1) (λ q. n (subst (λ g. Mem y (nodes (body g))) (sym q) (h .2))) e (h .2),
-      )
-
   -- The first bundle
 
   module _ (path : List ℕ) (path-read : pathCheck path ≡ 0) (short : (f : List ℕ) → Mem f parts → length (firstReply f path) ≤ 4096) where
@@ -107,7 +96,7 @@ module _ (p : Plant) (parts : List (List ℕ)) (cut : TrueCut p parts) where
     pub firsts-made : (f : List ℕ) → Mem f parts → Made 7 (siteOf (getD f 0 0)) n replyCheck (write f)
     firsts-made f m = first.first-made f path (read f m) path-read (short f m)
 
-    first-doors : doors (flatten (map write parts)) ≡ cutDoors
+    pub first-doors : doors (flatten (map write parts)) ≡ flatten (map (λ f. part.doors (body f)) parts)
     first-doors = made-chosen 7 replyCheck n write parts (cut .sites) firsts-made nodeOf isDoorWord (λ f. part.doors (body f)) (λ w e. rw e)
         (λ f m. first.first-doors f path (read f m) path-read)
 
@@ -119,15 +108,9 @@ module _ (p : Plant) (parts : List (List ℕ)) (cut : TrueCut p parts) where
     first-rows-none : (c : ℕ) → (Mem (pairNode c) cutDoors → ⊥) → rows (flatten (map write parts)) c ≡ []
     first-rows-none c d = rows-none c (flatten (map write parts)) (λ m. d (rw first-doors at m))
 
-    module _ (one : OneRoot p) (closed : Closed p) where
+    module _ (one : OneRoot p) where
       pub first-root : roots (flatten (map write parts)) ≡ one .root ∷ []
       first-root = first-roots ∙ root-only one
-
-      reaches : (w : ℕ) → Mem w (flatten (map write parts)) → T (isReach w) → Mem (pairNode (pairOf w)) (doors (flatten (map write parts)))
-      reaches w m t =
-          let k = flatten-map-iff write w parts .0 m in
-          let r = first.first-reach (k .0) path (read (k .0) (k .1)) path-read w (file-reach replyCheck (write (k .0)) (firsts-made (k .0) (k .1) .is-file) w (k .2) t) t in
-          rw first-doors (target-door closed (k .0) (k .1) (r .from) (labelOf (r .by)) (pairNode (pairOf w)) (r .by, r .edge, refl, r .target) (r .out))
 
       -- the hub accepts the first replies
       pub first-bundle : Firsts n (map write parts)
@@ -135,7 +118,6 @@ module _ (p : Plant) (parts : List (List ℕ)) (cut : TrueCut p parts) where
         replies = made-replies 7 replyCheck n write parts (cut .sites) firsts-made;
         one-root = ap length first-root;
         distinct = rw first-doors doors-distinct;
-        reaches = reaches;
       }
 
       -- the bundle's rows of a part's door are what the part reports of it

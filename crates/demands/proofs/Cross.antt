@@ -24,8 +24,8 @@ use Rattle.walks.specs.Product.{stepIn, answers}
 use Rattle.walks.proofs.Product.{answers-lists}
 use Rattle.first_replies.specs.FirstReply.{reported}
 use Rattle.first_replies.proofs.Reported.{reported-lists, reported-outbound}
-use Rattle.demands.specs.Plant.{Plant, Found, OneRoot, Closed, body, TrueCut}
-use Rattle.demands.proofs.Comes.{Comes, begin, link, ComesTo, pair-comes, comes-node, reach-comes, found-reach, link-step}
+use Rattle.demands.specs.Plant.{Plant, Found, OneRoot, body, TrueCut}
+use Rattle.demands.proofs.Comes.{Comes, begin, link, ComesTo, Ends, pair-comes, comes-node, reach-comes, found-reach, link-step}
 
 -- the pair of the root is called, and so is all that is reported of a called pair
 pub data Called (root : ℕ) (parts : List (List ℕ)) (e : Expr) : ℕ → Type 0 where
@@ -37,10 +37,11 @@ pub data Called (root : ℕ) (parts : List (List ℕ)) (e : Expr) : ℕ → Type
 abbrev FromCalled : ℕ → List (List ℕ) → Expr → ℕ → List ℕ → Type 0
 FromCalled root parts e d f = (c : ℕ) × Called root parts e c × Mem (pairNode c) (nodes (body f)) × Reach (stepIn (body f) e) (c ∷ []) d
 
-module _ (p : Plant) (parts : List (List ℕ)) (cut : TrueCut p parts) (one : OneRoot p) (closed : Closed p) (e : Expr) (small : count e ≤ 15) where
+module _ (p : Plant) (parts : List (List ℕ)) (cut : TrueCut p parts) (one : OneRoot p) (e : Expr) (small : count e ≤ 15)
+    (ends : (f : List ℕ) → Mem f parts → Ends p e f) where
   -- a pair that is come to fits its twenty bits
   comes-below : {c : ℕ} → ComesTo p e c → c < 2 ^ 20
-  comes-below {c} k = let (f, m, n) = cut .every (pairNode c) (comes-node p e closed k) in omega (arith, node-small (body f) (pairNode c) n)
+  comes-below {c} k = let (f, m, n) = cut .every (pairNode c) (comes-node p e k) in omega (arith, node-small (body f) (pairNode c) n)
 
   -- what is reported of a pair that is come to
   report : (c : ℕ) → ComesTo p e c → (f : List ℕ)
@@ -51,7 +52,7 @@ module _ (p : Plant) (parts : List (List ℕ)) (cut : TrueCut p parts) (one : On
   called-comes (at-root q) = subst (ComesTo p e) (sym q) (pair-comes p e (one .root) 0 (omega arith) .1 (begin (one .is)))
   called-comes (across {c = c} {d = d} {f = f} k m door r) =
       let h = called-comes k in
-      reach-comes p e small f (cut .holds f m) (c ∷ []) (λ b i. subst (ComesTo p e) (sym (List·Memᴰ·eq-of-singleton i)) h) d (report c h f .sound d r .0)
+      reach-comes p e small f (cut .holds f m) (ends f m) (c ∷ []) (λ b i. subst (ComesTo p e) (sym (List·Memᴰ·eq-of-singleton i)) h) d (report c h f .sound d r .0)
 
   -- the node of a called pair is a door of the part that holds it: it is the root, or the target of an edge from another part
   pub called-door : {c : ℕ} → Called (one .root) parts e c → (f : List ℕ) → Mem f parts
@@ -64,13 +65,17 @@ module _ (p : Plant) (parts : List (List ℕ)) (cut : TrueCut p parts) (one : On
       let other : g ≡ f → ⊥ = λ i. l .out (subst (λ h. Mem (pairNode d) (nodes (body h))) (sym i) n) in
       cut .crossed (l .from) (labelOf (l .by)) (pairNode d) g f m′ m other (l .by, l .edge, refl, l .target) n
 
+  -- some part has that door
+  pub called-home : {c : ℕ} → Called (one .root) parts e c → (f : List ℕ) × Mem f parts × Mem (pairNode c) (doors (body f))
+  called-home {c} k = let (f, m, n) = cut .every (pairNode c) (comes-node p e (called-comes k)) in (f, m, called-door k f m n)
+
   -- what is come to in a part is reached in it from a called pair: by induction over the links; a link from another part makes a called pair
   comes-reach : {x q : ℕ} → Comes p e x q → (f : List ℕ) → Mem f parts → Mem x (nodes (body f)) → FromCalled (one .root) parts e (pair x q) f
   comes-reach (begin {r = r} k) f m n = (pair r 0, at-root (ap (λ x. pair x 0) (one .only r k)), rw (pair-node r 0 (omega arith)) n, seed (here refl))
-  comes-reach (link {x = x} {a = a} {y = y} {q = q} {t = t} k b l s) f m n =
+  comes-reach (link {x = x} {a = a} {y = y} {q = q} {t = t} k b l o s) f m n =
       let (g, m′, n′) = cut .every x (p .link-node x a y l) in
       let (c, called, inside, r) = comes-reach k g m′ n′ in
-      let on = next r (link-step p e small g (cut .holds g m′) t k n′ b l s) in
+      let on = next r (link-step p e small g (cut .holds g m′) t k n′ b l o s) in
       let u : pairNode (pair y t) ≡ y = pair-node y t (omega (arith, step-range holds e q a t s)) in
       elim (mem-dec y (nodes (body g))) [
         | yes i ↦ subst (FromCalled (one .root) parts e (pair y t)) (cut .once y g f m′ m i n) (c, called, inside, on)
@@ -85,7 +90,7 @@ module _ (p : Plant) (parts : List (List ℕ)) (cut : TrueCut p parts) (one : On
     -- walks in the part from the seeds reach in an accepting state just the part's nodes that are found
     pub cross : (x : ℕ) → (Mem x (running (body f)) × ((q : ℕ) × Reach (stepIn (body f) e) seeds (pair x q) × T (accepts e q)))
         ↔ (Mem x (nodes (body f)) × Found p e x)
-    cross x = found-reach p e small f (cut .holds f m) seeds x (λ c i. called-comes (are c .0 i .0)) (λ n q k.
+    cross x = found-reach p e small f (cut .holds f m) (ends f m) seeds x (λ c i. called-comes (are c .0 i .0)) (λ n q k.
         let (c, called, inside, r) = comes-reach k f m n in
         reach-trans (λ b i. seed (Memᴰ·cast (List·Memᴰ·eq-of-singleton i) (are c .1 (called, inside)))) (pair x q) r)
 

@@ -1,20 +1,23 @@
--- The cutter makes true cuts: from an accepted whole file and an accepted cut list, the parts for the sites that the cut list names, ascending,
--- are a true cut of the file's plant. A true cut has one to sixteen parts. Assumes nothing.
+-- The cutter makes true cuts: from an accepted file, whole or with links that end nowhere, and an accepted cut list, the parts for the sites that the
+-- cut list names, ascending, are a true cut of the file's plant; in a whole's parts no link ends nowhere, and of any file's a test tells whether one is
+-- walked. A true cut has one to sixteen parts. Assumes nothing.
 use mathlib.Core.Path.{_≡_, sym, _∙_, ap, subst}
-use mathlib.Core.Bool.{Bool}
+use mathlib.Core.Bool.{Bool, not}
 use mathlib.Core.Logic.{_↔_}
 use mathlib.Core.List.{List, map, map-map, Memᴰ·map, Memᴰ·of-map}
 use Prim.Native.Nat.{ℕ, _≤_, _<_}
 use native.Mathlib.Omega.{arith}
 use lib.Dec.{T}
 use lib.ListN.{length, getD, length-map}
-use Rattle.sets.specs.Sets.{Mem, here, there, Distinct, setOf}
-use Rattle.sets.proofs.Sets.{setOf-lists}
-use Rattle.sets.proofs.Filter.{map-fixed}
+use Rattle.sets.specs.Sets.{Mem, here, there, Distinct, setOf, member, any}
+use Rattle.sets.specs.Reach.{next}
+use Rattle.sets.proofs.Sets.{setOf-lists, member-iff}
+use Rattle.sets.proofs.Filter.{map-fixed, all-iff}
 use Rattle.sets.proofs.Lengths.{ascending-distinct, pigeonhole-below}
-use Rattle.files.specs.Field.{siteOf, rootOf, stoppedOf}
+use Rattle.files.specs.Field.{siteOf, rootOf, stoppedOf, pair, pairNode}
+use Rattle.files.specs.Groups.{ourGroups}
 use Rattle.files.specs.Part.{partCheck, wholeCheck, nodes, nodesWith, doors, edges}
-use Rattle.files.proofs.Fields.{site-below}
+use Rattle.files.proofs.Fields.{site-below, pair-node}
 use Rattle.files.proofs.Blocks.{Block, number, blocks, nodes-iff, marked-iff, edges-block, block-edges}
 use Rattle.files.proofs.Parts.{whole-part, nodes-ascending}
 use Rattle.files.specs.Cuts.{cutCheck}
@@ -22,8 +25,18 @@ use Rattle.cutter.specs.Cut.{cut}
 use Rattle.cutter.proofs.Sited.{Fit, sited, site-known, sited-block, block-sited, sited-once}
 use Rattle.cutter.proofs.Cutter.{cut-accepted, cut-length, cut-site, cut-words}
 use Rattle.cutter.proofs.Parts.{cuts-fit, cut-nodes, cut-roots, cut-stopped, cut-edges, cut-crossed}
-use Rattle.demands.specs.Plant.{Plant, OneRoot, TrueCut, Holds, HasEdge, AcceptedPart, Words, body}
+use Rattle.expressions.specs.Expr.{Expr, count}
+use Rattle.expressions.specs.Labels.{holds}
+use Rattle.expressions.proofs.Ranges.{step-range}
+use Rattle.walks.specs.Product.{reached}
+use Rattle.walks.proofs.Product.{exits-iff, pair-step-iff, reached-lists}
+use Rattle.old.proofs.OldSearch.{rootPairs}
+use Rattle.demands.specs.Plant.{Plant, OneRoot, TrueCut, Unwalked, Holds, HasEdge, AcceptedPart, Words, body}
 use Rattle.demands.specs.PlantOf.{plantOf, partsOf}
+use Rattle.demands.proofs.PlantOf.{plant-holds, plant-closed}
+use Rattle.demands.proofs.LeftOut.{OnlyLinks, plant-unwalked, closed-unwalked}
+use Rattle.demands.proofs.Comes.{begin, comes-state, walk-comes}
+use Rattle.demands.proofs.OldSearch.{comes-reach, roots-below}
 
 -- any true cut of a plant with a root has some part, and at most sixteen, as sites are different and below 16
 pub some-part : {p : Plant} {parts : List (List ℕ)} → OneRoot p → TrueCut p parts → 1 ≤ length parts
@@ -41,11 +54,9 @@ few-parts {parts} cut = omega (
       (λ s m. let (f, i, e) = Memᴰ·of-map (λ f. siteOf (getD f 0 0)) parts m in rw (← e) (site-below (getD f 0 0))),
 )
 
-module _ (f cuts : List ℕ) (whole : wholeCheck f ≡ 0) (site : ℕ) (listed : cutCheck (body f) cuts site ≡ 0) where
-  -- the file is a part, and each of its node words has a site
-  p : partCheck f ≡ 0
-  p = whole-part f whole
-
+-- the file need not be a whole: its links may end nowhere
+module _ (f cuts : List ℕ) (p : partCheck f ≡ 0) (site : ℕ) (listed : cutCheck (body f) cuts site ≡ 0) where
+  -- each of its node words has a site
   c : Fit (body f) cuts
   c = cuts-fit (body f) cuts site listed .0
 
@@ -76,18 +87,21 @@ module _ (f cuts : List ℕ) (whole : wholeCheck f ≡ 0) (site : ℕ) (listed :
     is-mark : (x : ℕ) → Mem x (nodesWith mark (body (cut f cuts s))) → Mem x (nodesWith mark (body f))
     is-mark x m = let (a, k, t, q) = kept x .0 m in marked-iff mark x (body f) .1 (a, sited-block (body f) cuts c k, t, q)
 
+  -- a part's edges are the file's
+  part-edge : (s : ℕ) → s < 16 → (x l y : ℕ) → HasEdge (cut f cuts s) x l y → HasEdge f x l y
+  part-edge s h x l y (w, i, v, u) =
+      let (a, k, q, i) = cut-edges f cuts p c s h w x .0 i in
+      (w, subst (λ x. Mem w (edges (body f) x)) q (block-edges a w (body f) distinct (sited-block (body f) cuts c k) i), v, u)
+
   part-holds : (s : ℕ) → s < 16 → Holds (plantOf f) (cut f cuts s)
   part-holds s h = record {
     is-node = λ x m. let (a, k, q) = cut-nodes f cuts p c s h x .0 m in nodes-iff x (body f) .1 (a, sited-block (body f) cuts c k, q);
-    has-link = λ x l y m e.
+    has-link = λ x l y m e o.
         let (w, i, v, u) = e in
         let (a, k, q) = cut-nodes f cuts p c s h x .0 m in
         let (b, j, n, i) = edges-block w x (body f) i in
         (w, cut-edges f cuts p c s h w x .1 (a, k, q, subst (λ (b : Block). Mem w (b .links)) (same k j (q ∙ sym n)) i), v, u);
-    is-link = λ x l y e.
-        let (w, i, v, u) = e in
-        let (a, k, q, i) = cut-edges f cuts p c s h w x .0 i in
-        (w, subst (λ x. Mem w (edges (body f) x)) q (block-edges a w (body f) distinct (sited-block (body f) cuts c k) i), v, u);
+    is-link = λ x l y e o. part-edge s h x l y e;
     has-root = has-mark s h rootOf (cut-roots f cuts p c s h);
     is-root = is-mark s h rootOf (cut-roots f cuts p c s h);
     has-stopped = has-mark s h stoppedOf (cut-stopped f cuts p c s h);
@@ -140,3 +154,26 @@ module _ (f cuts : List ℕ) (whole : wholeCheck f ≡ 0) (site : ℕ) (listed :
     crossed = λ x l y. each₂ (λ g g′. (g ≡ g′ → ⊥) → HasEdge g x l y → Mem y (nodes (body g′)) → Mem y (doors (body g′)))
         (λ s t i j n. part-crossed x l y s t (small s i) (small t j) (λ e. n (ap (cut f cuts) e)));
   }
+
+  pub part-links : OnlyLinks (plantOf f) (partsOf f cuts)
+  part-links = each (λ g. (x l y : ℕ) → HasEdge g x l y → HasEdge f x l y) (λ s m. part-edge s (small s m))
+
+-- no link of a whole ends nowhere
+pub whole-unwalked : (groups f cuts : List ℕ) → wholeCheck f ≡ 0 → (site : ℕ) → cutCheck (body f) cuts site ≡ 0
+    → (e : Expr) → Unwalked groups (plantOf f) (partsOf f cuts) e
+whole-unwalked groups f cuts whole site listed e =
+    closed-unwalked groups (plantOf f) (partsOf f cuts) e (part-links f cuts (whole-part f whole) site listed) (plant-closed f whole)
+
+-- Of any file: where the search of the file as it stands comes to no node that the file has not, no walk takes a link that ends nowhere
+pub search-unwalked : (f cuts : List ℕ) → partCheck f ≡ 0 → (site : ℕ) → cutCheck (body f) cuts site ≡ 0 → (e : Expr) → count e ≤ 15
+    → T (not (any (λ c. not (member (pairNode c) (nodes (body f)))) (reached (body f) e (rootPairs f)))) → Unwalked ourGroups (plantOf f) (partsOf f cuts) e
+search-unwalked f cuts p site listed e small test =
+    plant-unwalked ourGroups (plantOf f) (partsOf f cuts) e (part-links f cuts p site listed) (λ r x a y q t w k v run (u, i, j, l) out s.
+    let (c, n) = walk-comes (plantOf f) e (begin k) v run in
+    let b : t < 16 = omega (arith, step-range holds e q a t s) in
+    let d = comes-reach (plantOf f) f (plant-holds f) (λ x n. n) e small c in
+    let z = next d (pair-step-iff (body f) e small x q y t (omega (arith, comes-state (plantOf f) e c)) b .1
+    (u, exits-iff (body f) x u .1 (i, n .1), l, rw j s)) in
+    let all = all-iff (λ c. member (pairNode c) (nodes (body f))) (reached (body f) e (rootPairs f)) .0 test (pair y t)
+    (reached-lists (body f) e small (rootPairs f) (roots-below f) .complete (pair y t) z) in
+    out (rw (pair-node y t b) at (member-iff (pairNode (pair y t)) (nodes (body f)) .0 all)))

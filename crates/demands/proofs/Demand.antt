@@ -33,7 +33,7 @@ use Rattle.demands.specs.Demand.{Enough, AcceptedPath, Demand2, Asked, P
 use Rattle.demands.proofs.Comes.{found-iff}
 use Rattle.demands.proofs.Cross.{cross-answers}
 use Rattle.demands.proofs.OldSearch.{final-unique, old-final}
-use Rattle.demands.proofs.Accepts.{path, path-read, e, small, firsts, Owes, Gathered, gathered, called-iff, first-call, hub-call, second-call, Answered, answered, join-call, join-lists, join-perm, first-sized, list-sized, second-sized, joined-sized, joined-words}
+use Rattle.demands.proofs.Accepts.{path, path-read, e, small, part-ends, firsts, Owes, Gathered, gathered, called-iff, first-call, hub-call, second-call, Answered, answered, join-call, join-lists, join-perm, first-sized, list-sized, second-sized, joined-sized, joined-words}
 use Rattle.demands.proofs.Grouping.{asks-checked, asks-head, old-asked, final-asked}
 use Rattle.demands.proofs.Host.{call-gives, call-refuses, each-gives, stops-here, stops-later}
 use Rattle.demands.proofs.Owed.{firstOf, secondOf, bundle, list, bundle′, owed, Agree, owed-once}
@@ -64,7 +64,7 @@ module _ (q : Asked) where
     where
       answers : (f : List ℕ) → Mem f (q .parts)
           → Lists (λ x. Mem x (nodes (body f)) × Found (q .plant) (e q) x) (found f (path q) (callList (flatten order)))
-      answers f m = cross-answers (q .plant) (q .parts) (q .cut) (q .one-root) (q .closed) (e q) (small q) f m
+      answers f m = cross-answers (q .plant) (q .parts) (q .cut) (q .one-root) (e q) (small q) (part-ends q) f m
           (calledIn (body f) (drop 1 (callList (flatten order)))) (called-iff q g f)
 
   module _ (u : Put q) where

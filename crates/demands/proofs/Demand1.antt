@@ -42,7 +42,7 @@ use Rattle.demands.specs.Demand1.{Settles, rows, Demand1}
 use Rattle.demands.proofs.PlantOf.{plant-holds}
 use Rattle.demands.proofs.OldSearch.{old-final}
 use Rattle.demands.proofs.Grouping.{asks-checked, final-asked}
-use Rattle.demands.proofs.Numbers.{Among, among, among-more, among-first, size-numbers, part-numbers, whole-numbers, cuts-numbers, path-numbers, groups-numbers, calls-numbers, against-numbers, firsts-numbers, seconds-numbers}
+use Rattle.demands.proofs.Numbers.{Among, among, among-more, among-first, size-numbers, part-numbers, whole-numbers, cuts-numbers, path-numbers, groups-numbers, calls-numbers, against-numbers, firsts-numbers, stray-numbers, seconds-numbers}
 
 -- A call whose checks are those of the buffers, of the size of its first input s, and then c. It settles if c gives only its numbers, and if, when
 -- all checks pass, the result is what it owes and within its limit, or 15 is one of the numbers.
@@ -83,7 +83,8 @@ demand-1 = record {
       (λ p.
       let (a, r) = then-iff (partCheck (words part)) _ .0 (p .read) in
       (first-reply (words part) (words path) a (then-iff (sizeCheck 64 path) _ .0 r .1), inr tt));
-  call-list = λ bundle n m. settles _ _ _ n m bundle _ _ _ tt tt (among-more tt (firsts-numbers (words bundle))) (λ p. (call-list (words bundle), inr tt));
+  call-list = λ bundle n m. settles _ _ _ n m bundle _ _ _ tt tt
+      (among-first tt (firsts-numbers (words bundle)) (among-more tt (stray-numbers (words bundle)))) (λ p. (call-list (words bundle), inr tt));
   second-reply = λ part path calls n m. settles _ _ _ n m part _ _ _ tt tt
       (among-first tt (part-numbers (words part)) (among-first tt (size-numbers 64 path) (among-first tt (path-numbers (words path))
       (among-first tt (size-numbers 4096 calls) (among-first tt (calls-numbers (words calls))

@@ -1,5 +1,6 @@
 pub mod Numbers
 pub mod Comes
+pub mod LeftOut
 pub mod OldSearch
 pub mod Cross
 pub mod Bundles

@@ -27,6 +27,7 @@ use Rattle.files.specs.Calls.{callCheck, callsCheck}
 use Rattle.files.specs.Answers.{answerCheck, answersCheck}
 use Rattle.files.specs.Bundle.{filesCheck, firstBundleCheck, secondBundleCheck}
 use Rattle.files.specs.Cuts.{cutCheck}
+use Rattle.hub_calls.specs.CallList.{strayCheck}
 use Rattle.site_second.specs.Second.{againstCheck}
 
 -- a check gives 0, or one of these numbers
@@ -139,8 +140,11 @@ reply-word n st w = search among depth 8
 reply-numbers : (h : ℕ) (ws : List ℕ) → Among (5 ∷ 10 ∷ 6 ∷ 7 ∷ []) (replyCheck h ws)
 reply-numbers h = among-scan (reply.wordCheck (labelsOf h)) reply.next reply.endCheck (reply-word (labelsOf h)) (λ st. search among) reply.start
 
-pub firsts-numbers : (ws : List ℕ) → Among (3 ∷ 4 ∷ 5 ∷ 10 ∷ 6 ∷ 7 ∷ 12 ∷ 13 ∷ 14 ∷ []) (firstBundleCheck ws)
+pub firsts-numbers : (ws : List ℕ) → Among (3 ∷ 4 ∷ 5 ∷ 10 ∷ 6 ∷ 7 ∷ 12 ∷ 13 ∷ []) (firstBundleCheck ws)
 firsts-numbers ws = among-first tt (files-numbers 7 replyCheck reply-numbers (length ws) ws) (search among)
+
+pub stray-numbers : (ws : List ℕ) → Among (14 ∷ []) (strayCheck ws)
+stray-numbers ws = search among
 
 answers-numbers : (h : ℕ) (ws : List ℕ) → Among (5 ∷ 6 ∷ []) (answersCheck h ws)
 answers-numbers h = among-ordered answerCheck tt (λ w. search among) 0

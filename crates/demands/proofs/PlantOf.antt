@@ -1,13 +1,13 @@
--- The plant of an accepted whole file: it fits that file, has one root, and no link leaves it. Parts with different sites, no node in two
+-- The plant of an accepted whole file: it fits that file, has one root, and no link of it ends nowhere. Parts with different sites, no node in two
 -- and a door wherever a link crosses are a true cut of the plant that they hold together. Assumes nothing.
 use mathlib.Core.Path.{_≡_, refl, subst}
 use mathlib.Core.Bool.{Bool}
-use mathlib.Core.List.{List, map, List·Memᴰ·eq-of-singleton}
+use mathlib.Core.List.{List, [], _∷_, map, List·Memᴰ·eq-of-singleton}
 use Prim.Native.Nat.{ℕ, _≤_}
 use lib.ListN.{length, getD}
 use Rattle.sets.specs.Sets.{Mem, here, Distinct}
 use Rattle.files.specs.Field.{siteOf, rootOf, stoppedOf}
-use Rattle.files.specs.Part.{nodes, nodesWith, doors, wholeCheck}
+use Rattle.files.specs.Part.{nodes, nodesWith, roots, doors, wholeCheck}
 use Rattle.files.proofs.Blocks.{marked-nodes, edge-of}
 use Rattle.files.proofs.Parts.{whole-root, whole-target}
 use Rattle.demands.specs.Plant.{OneRoot, Closed, HasEdge, Holds, AcceptedPart, TrueCut, Fits, Words, body}
@@ -17,8 +17,8 @@ use Rattle.demands.specs.PlantOf.{plantOf, plantOfParts}
 pub plant-holds : (f : List ℕ) → Holds (plantOf f) f
 plant-holds f = record {
   is-node = λ x m. m;
-  has-link = λ x a y m l. l;
-  is-link = λ x a y l. l;
+  has-link = λ x a y m l n. l;
+  is-link = λ x a y l n. l;
   has-root = λ x m r. r;
   is-root = λ x r. r;
   has-stopped = λ x m s. s;
@@ -34,10 +34,11 @@ plant-fits f word small c = record {
   every = λ x m. m;
 }
 
+pub one-root-of : (f : List ℕ) (r : ℕ) → roots (body f) ≡ r ∷ [] → OneRoot (plantOf f)
+one-root-of f r e = record { root = r; is = rw e (here refl); only = λ x m. List·Memᴰ·eq-of-singleton (rw e at m) }
+
 pub plant-one-root : (f : List ℕ) → wholeCheck f ≡ 0 → OneRoot (plantOf f)
-plant-one-root f c =
-    let (r, e) = whole-root f c in
-    record { root = r; is = rw e (here refl); only = λ x m. List·Memᴰ·eq-of-singleton (rw e at m) }
+plant-one-root f c = let (r, e) = whole-root f c in one-root-of f r e
 
 pub plant-closed : (f : List ℕ) → wholeCheck f ≡ 0 → Closed (plantOf f)
 plant-closed f c x a y (w, m, p, q) =
@@ -52,8 +53,8 @@ parts-cut parts part sites once crossed = record {
   part = part;
   holds = λ f m. record {
     is-node = λ x n. (f, m, n);
-    has-link = λ x a y n (g, k, (w, i, l, t)). subst (λ h. HasEdge h x a y) (once x g f k m (edge-of (body g) x w i .2) n) (w, i, l, t);
-    is-link = λ x a y e. (f, m, e);
+    has-link = λ x a y n (g, k, (w, i, l, t)) o. subst (λ h. HasEdge h x a y) (once x g f k m (edge-of (body g) x w i .2) n) (w, i, l, t);
+    is-link = λ x a y e o. (f, m, e);
     has-root = has-mark f m rootOf;
     is-root = λ x r. (f, m, r);
     has-stopped = has-mark f m stoppedOf;

@@ -16,7 +16,7 @@ use Rattle.expressions.specs.Labels.{exprOf}
 use Rattle.first_replies.specs.FirstReply.{IsFirstReply}
 use Rattle.site_second.specs.Second.{IsSecondReply}
 use Rattle.hub_calls.specs.CallList.{IsCallList}
-use Rattle.demands.specs.Plant.{Plant, OneRoot, Closed, TrueCut, Fits, Words, FinalListBy}
+use Rattle.demands.specs.Plant.{Plant, OneRoot, TrueCut, Unwalked, Fits, Words, FinalListBy}
 use Rattle.demands.specs.Grouped.{Groups, AcceptedGroups, groupsOf, asks, oldCall}
 use Rattle.demands.specs.Question.{Room, Call, first, calls, second, join, Asking, stopped, going, Answer, ask}
 
@@ -35,12 +35,12 @@ Demand2 = (p : Plant) (whole : List ℕ) (groups : Groups) (path : List ℕ) →
     → (n m : ℕ) → Enough 8192 n m
     → (final : List ℕ) × (oldCall groups n m (bytesOf whole) (bytesOf path) ≡ accepted final) × FinalListBy (groupsOf groups) p (exprOf (drop 1 path)) final
 
--- Demand 3's givens: a plant with one root and no link that ends outside it, a true cut of it, and groups and a path that all sites accept. That the parts
--- are one to sixteen, as sites are 0 to 15, follows from the rest (`some-part` and `few-parts` of proofs/Cutter.antt), and is said for the reader.
+-- Demand 3's givens: a plant with one root, a true cut of it, and groups and a path that all sites accept, by which no walk can take a link that ends
+-- nowhere. That the parts are one to sixteen, as sites are 0 to 15, follows from the rest (`some-part` and `few-parts` of proofs/Cutter.antt), and is
+-- said for the reader.
 pub record Asked : Type 1 where
   pub plant : Plant
   pub one-root : OneRoot plant
-  pub closed : Closed plant
   pub parts : List (List ℕ)
   pub some-part : 1 ≤ length parts
   pub few-parts : length parts ≤ 16
@@ -49,6 +49,7 @@ pub record Asked : Type 1 where
   pub groups-accepted : AcceptedGroups groups
   pub path : List ℕ
   pub path-accepted : AcceptedPath path
+  pub unwalked : Unwalked (groupsOf groups) plant parts (exprOf (drop 1 path))
 
 -- c is the first of some calls that has a property
 pub data First (P : Call → Type 0) : List Call → Call → Type 0 where

@@ -2,12 +2,14 @@
 use Prim.Native.Nat.{ℕ, _^_, _≤_, _<_}
 use mathlib.Core.Path.{_≡_}
 use mathlib.Core.List.{List, [], _∷_, map}
+use lib.Dec.{T}
 use lib.ListN.{length, drop, getD}
 use Rattle.sets.specs.Sets.{Mem, Distinct, Lists}
 use Rattle.files.specs.Field.{siteOf, labelOf, targetOf, file, answerWord}
 use Rattle.files.specs.Groups.{ourGroups}
 use Rattle.files.specs.Part.{nodes, roots, doors, stopped, edges, partCheck, wholeCheck}
 use Rattle.expressions.specs.Expr.{Expr, Matches}
+use Rattle.expressions.specs.Positions.{step, Run}
 use Rattle.expressions.specs.Labels.{holdsBy}
 
 -- Document 01's "plant": a set of nodes, with roots among them, and for each node a set of links; a link is a label and a target. Some of its
@@ -53,7 +55,7 @@ pub record OneRoot (p : Plant) : Type 0 where
   pub is : p .Root root
   pub only : (x : ℕ) → p .Root x → x ≡ root
 
--- no link ends outside the plant
+-- no link ends nowhere: each target is a node of the plant
 abbrev pub Closed : Plant → Type 0
 Closed p = (x a y : ℕ) → p .Link x a y → p .Node y
 
@@ -66,11 +68,12 @@ abbrev pub HasEdge : List ℕ → ℕ → ℕ → ℕ → Type 0
 HasEdge f x a y = (w : ℕ) × Mem w (edges (body f) x) × (labelOf w ≡ a) × (targetOf w ≡ y)
 
 -- the part's nodes are nodes of the plant, each with just its links; the plant's root, and no other node, is marked as root; and just the
--- plant's stopped nodes are marked as stopped
+-- plant's stopped nodes are marked as stopped. Links that end nowhere, whose target is no node of the plant, are left out on both sides
+-- (document 02, request 5): the plant's need not stand in the part, and the part's need not be the plant's.
 pub record Holds (p : Plant) (f : List ℕ) : Type 0 where
   pub is-node : (x : ℕ) → Mem x (nodes (body f)) → p .Node x
-  pub has-link : (x a y : ℕ) → Mem x (nodes (body f)) → p .Link x a y → HasEdge f x a y
-  pub is-link : (x a y : ℕ) → HasEdge f x a y → p .Link x a y
+  pub has-link : (x a y : ℕ) → Mem x (nodes (body f)) → p .Link x a y → p .Node y → HasEdge f x a y
+  pub is-link : (x a y : ℕ) → HasEdge f x a y → p .Node y → p .Link x a y
   pub has-root : (x : ℕ) → Mem x (nodes (body f)) → p .Root x → Mem x (roots (body f))
   pub is-root : (x : ℕ) → Mem x (roots (body f)) → p .Root x
   pub has-stopped : (x : ℕ) → Mem x (nodes (body f)) → p .Stopped x → Mem x (stopped (body f))
@@ -84,9 +87,9 @@ Words f = (w : ℕ) → Mem w f → w < 2 ^ 32
 abbrev pub AcceptedPart : List ℕ → Type 0
 AcceptedPart f = Words f × (length f ≤ 4096) × (partCheck f ≡ 0)
 
--- Document 01's "true cut": parts with different sites; each node with its edges in exactly one, and no other node or edge in any; the root,
--- and no other node, marked as root in its part; the stopped nodes, and no others, marked as stopped; each target of an edge from another part
--- marked as a door. Further doors may be marked.
+-- Document 01's "true cut", links that end nowhere left out: parts with different sites; each node with its edges in exactly one, and no other
+-- node or edge in any; the root, and no other node, marked as root in its part; the stopped nodes, and no others, marked as stopped; each target
+-- of an edge from another part marked as a door. Further doors may be marked.
 pub record TrueCut (p : Plant) (parts : List (List ℕ)) : Type 0 where
   pub part : (f : List ℕ) → Mem f parts → AcceptedPart f
   pub holds : (f : List ℕ) → Mem f parts → Holds p f
@@ -96,7 +99,16 @@ pub record TrueCut (p : Plant) (parts : List (List ℕ)) : Type 0 where
   pub crossed : (x a y : ℕ) (f g : List ℕ) → Mem f parts → Mem g parts → (f ≡ g → ⊥)
       → HasEdge f x a y → Mem y (nodes (body g)) → Mem y (doors (body g))
 
--- the plant "fits one file": the whole file f holds exactly its nodes, links, root and stopped nodes
+-- Document 02, request 5: "no walk on which the path's states can step from the root uses" a link that ends nowhere. The parts are taken as they
+-- stand, with the links that end nowhere in them: where a walk from a root takes the automaton to q, no edge of a part from there whose target is
+-- no node of the plant has a label on which q steps, to whatever state. Word g of the groups stands for group g.
+abbrev pub Unwalked : List ℕ → Plant → List (List ℕ) → Expr → Type 0
+Unwalked groups p parts e =
+    (r x a y q t : ℕ) (w f : List ℕ) → p .Root r → Walk p r w x → Run (holdsBy groups) e 0 w q
+    → Mem f parts → HasEdge f x a y → (p .Node y → ⊥) → T (step (holdsBy groups) e q a t) → ⊥
+
+-- the plant "fits one file": the whole file f holds exactly its nodes, links, root and stopped nodes; a whole has no link that ends nowhere, and
+-- the plant's are left out
 pub record Fits (p : Plant) (f : List ℕ) : Type 0 where
   pub word : Words f
   pub small : length f ≤ 4096

@@ -1,5 +1,5 @@
--- Believed. The plant that a whole file holds, the parts that the cutter makes of it, and the plant that parts hold together. Document 01, "Plant" and
--- "Cutter".
+-- Believed. The plant that a whole file holds, the parts that the cutter makes of it, the plant that parts hold together, and a plant with its links
+-- that end nowhere left out. Document 01, "Plant" and "Cutter"; document 02, request 5.
 use Prim.Native.Nat.{ℕ}
 use mathlib.Core.List.{List, map}
 use Rattle.sets.specs.Sets.{Mem, setOf}
@@ -30,6 +30,18 @@ plantOfParts parts = record {
   root-node = λ x (f, m, r). (f, m, roots-nodes (body f) x r);
   stopped-node = λ x (f, m, s). (f, m, stopped-nodes (body f) x s);
   link-node = λ x a y (f, m, (w, k, l, t)). (f, m, edge-of (body f) x w k .2);
+}
+
+-- a plant with its links that end nowhere left out
+abbrev pub leftOut : Plant → Plant
+leftOut p = record {
+  Node = p .Node;
+  Root = p .Root;
+  Stopped = p .Stopped;
+  Link = λ x a y. p .Link x a y × p .Node y;
+  root-node = p .root-node;
+  stopped-node = p .stopped-node;
+  link-node = λ x a y l. p .link-node x a y (l .0);
 }
 
 -- the parts for the sites that a cut list names, ascending

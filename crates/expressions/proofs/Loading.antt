@@ -117,11 +117,15 @@ module _ (f : ℕ → ℕ) where
     label-is e zero = sym none
     label-is e (suc p) = rw (letters-are e) (ap (getD (map f (letters e)) p) (sym none) ∙ List·getD-map f (letters e) p 0)
 
+    -- the automaton steps as that of the expression whose letters hold what the new ones do
+    relabel-steps : (holds : ℕ → ℕ → Bool) (e : Expr) → step holds (relabel e) ≡ step (λ l a. holds (f l) a) e
+    relabel-steps holds e = fun-ext λ q. fun-ext λ a. fun-ext λ p. rw (next-same e q p, label-is e p)
+
     relabel-alike : (holds : ℕ → ℕ → Bool) → ((l a : ℕ) → holds (f l) a ≡ holds l a) → (e : Expr) → Alike holds (relabel e) e
     relabel-alike holds h e = record {
       counts = count-same e;
       accepting = fun-ext (accepts-same e);
-      steps = fun-ext λ q. fun-ext λ a. fun-ext λ p. rw (next-same e q p, label-is e p, h (labelWord e p) a);
+      steps = relabel-steps holds e ∙ ap (λ k. step k e) (fun-ext λ l. fun-ext λ a. h l a);
     }
 
   -- the words are those of the expression whose letters hold what the new ones do
@@ -198,11 +202,16 @@ module _ (groups : List ℕ) (r : Ranges groups) where
       range : (w : ℕ) → T (isRange w) → holds w a ≡ inRange w a
       range w k = range-holds w a (eqb-true (sortOf w) 0 (is-true _ ((simp and-iff at k) .0 .1)))
 
+  all-hold : (λ l a. holds (load groups l) a) ≡ holdsBy groups
+  all-hold = fun-ext λ l. fun-ext λ a. load-holds l a
+
   -- Document 02: word g replaces group g. The words of the loaded path's expression are those of the path's own, a group word read by the customer's.
   pub grouped-meaning : (ws w : List ℕ) → Matches holds (exprOf (map (load groups) ws)) w ↔ Matches (holdsBy groups) (exprOf ws) w
-  grouped-meaning ws w =
-      let h : (λ l a. holds (load groups l) a) ≡ holdsBy groups = fun-ext λ l. fun-ext λ a. load-holds l a in
-      rw (expr-load ws, ← h) (matches-relabel (load groups) holds (exprOf ws) w)
+  grouped-meaning ws w = rw (expr-load ws, ← all-hold) (matches-relabel (load groups) holds (exprOf ws) w)
+
+  -- so with its steps: the loaded path's automaton steps as the path's own does
+  pub grouped-steps : (ws : List ℕ) → step holds (exprOf (map (load groups) ws)) ≡ step (holdsBy groups) (exprOf ws)
+  grouped-steps ws = rw (expr-load ws) (relabel-steps (load groups) refl holds (exprOf ws) ∙ ap (λ h. step h (exprOf ws)) all-hold)
 
 -- two paths that are read alike
 pub record SamePath (path path′ : List ℕ) : Type 0 where

@@ -7,10 +7,10 @@ use Prim.Native.Nat.{ℕ, suc, _^_, _≤_, _<_}
 use native.Mathlib.Omega.{arith}
 use lib.Dec.{T}
 use lib.ListN.{length, getD, drop, length-map}
-use Rattle.sets.specs.Sets.{Mem, here, there, Ascending, Distinct, filter, member}
-use Rattle.sets.proofs.Sets.{flatten-map-iff, member-iff}
-use Rattle.sets.proofs.Filter.{all-that-iff, map-agree, filter-length}
-use Rattle.files.specs.Field.{kindOf, siteOf, labelsOf, nodeOf, doorRootOf, stateOf, pairOf, pairNode, pairState, file, callWord}
+use Rattle.sets.specs.Sets.{Mem, here, there, Ascending, Distinct, filter}
+use Rattle.sets.proofs.Sets.{flatten-map-iff}
+use Rattle.sets.proofs.Filter.{map-agree, filter-length}
+use Rattle.files.specs.Field.{kindOf, siteOf, labelsOf, nodeOf, doorRootOf, stateOf, pairState, file, callWord}
 use Rattle.files.specs.Reply.{start, isDoorWord, isReach, replyCheck, doors, roots, rows}
 use Rattle.files.specs.Answers.{answersOf, answersCheck}
 use Rattle.files.specs.Calls.{callsCheck}
@@ -43,12 +43,11 @@ module _ (kind : ℕ) (body : ℕ → List ℕ → ℕ) where
   bundle-labels n ([] ∷ fs) r h = absurd (omega (arith, r .files [] (here refl) .some))
   bundle-labels n ((w ∷ ws) ∷ fs) r h = r .labels (w ∷ ws) (here refl)
 
--- a bundle of first replies: one root, no door in two files, and every reach word's node is a door of the bundle
+-- a bundle of first replies: one root, and no door in two files
 pub record Firsts (n : ℕ) (fs : List (List ℕ)) : Type 0 where
   pub replies : Replies 7 replyCheck n fs
   pub one-root : length (roots (flatten fs)) ≡ 1
   pub distinct : Distinct (doors (flatten fs))
-  pub reaches : (w : ℕ) → Mem w (flatten fs) → T (isReach w) → Mem (pairNode (pairOf w)) (doors (flatten fs))
 
 -- a bundle of second replies: no answer in two files
 pub record Seconds (n : ℕ) (fs : List (List ℕ)) : Type 0 where
@@ -62,11 +61,7 @@ firsts-accepted n fs b = simp checks (
     simp checks at (replies-headers 7 replyCheck n fs (b .replies)),
     (
       b .one-root,
-      (
-        twice-iff (doors (flatten fs)) .1 (b .distinct),
-        all-that-iff isReach (λ w. member (pairNode (pairOf w)) (doors (flatten fs))) (flatten fs) .1
-            (λ w m t. member-iff (pairNode (pairOf w)) (doors (flatten fs)) .1 (b .reaches w m t)),
-      ),
+      twice-iff (doors (flatten fs)) .1 (b .distinct),
     ),
   ),
 )

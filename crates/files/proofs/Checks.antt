@@ -49,16 +49,6 @@ passed-then a b d h e f = rw (← then-assoc a b d) (passed-first (a then b) d h
 pub chained : {a b x y n : ℕ} → n ≡ (a then b) → a ≡ x → b ≡ y → n ≡ (x then y)
 chained e f g = e ∙ rw (f, g)
 
-module _ {a b d m x y z n : ℕ} (e : n ≡ (a then m)) (i : m ≡ (b then d)) (f : a ≡ x) (g : b ≡ y) (h : d ≡ z) (u : ℕ) where
-  three : n ≡ (x then (y then z))
-  three = chained e f (chained i g h)
-
-  pub three-refused : (n ≡ 0 → ⊥) → n ≡ (x then (y then (z then u)))
-  three-refused o = rw (← then-assoc y z u, ← then-assoc x (y then z) u) (refused-first (x then (y then z)) u o three)
-
-  pub three-passed : {r : ℕ} → n ≡ 0 → r ≡ u → r ≡ (x then (y then (z then u)))
-  three-passed o q = rw (← then-assoc y z u, ← then-assoc x (y then z) u) (passed-first (x then (y then z)) u o three q)
-
 pub ruleset checks = (then-iff, unless-iff, and-iff, eq-iff, le-iff)
 
 -- room for the words of a limit, as the code tests it: no product that could wrap

@@ -5,7 +5,7 @@ use mathlib.Core.List.{List, [], _∷_, map}
 use lib.Dec.{eqb, leb, ltb}
 use lib.ListN.{length, getD, take, drop}
 use Rattle.sets.specs.Sets.{member, any}
-use Rattle.files.specs.Field.{siteOf, labelsOf, sizeOf, pairOf, pairNode}
+use Rattle.files.specs.Field.{siteOf, labelsOf, sizeOf}
 use Rattle.files.specs.Refuse.{_then_, _unless_, headerCheck}
 use Rattle.files.specs.Reply as reply
 use Rattle.files.specs.Answers as answers
@@ -31,22 +31,17 @@ abbrev pub twice : List ℕ → Bool
 twice [] = false
 twice (x ∷ xs) = member x xs || twice xs
 
--- a reach word whose node is no door of the words
-abbrev pub strays : List ℕ → ℕ → Bool
-strays ws w = reply.isReach w && not (member (pairNode (pairOf w)) (reply.doors ws))
-
 -- 12: a site twice, or a different n
 abbrev pub headersCheck : List ℕ → ℕ
 headersCheck hs =
     12 unless (not (twice (map siteOf hs)) && not (any (λ h. not (eqb (labelsOf h) (labelsOf (getD hs 0 0)))) hs))
 
--- over all files of a bundle of first replies: 12, 7, 13 and 14
+-- over all files of a bundle of first replies: 12, 7 and 13. 14 comes next, and asks for the call list's set (`strayCheck` of the hub's)
 abbrev pub firstOverCheck : List ℕ → ℕ
 firstOverCheck ws =
     headersCheck (headers (length ws) ws)
     then 7 unless eqb (length (reply.roots ws)) 1
     then 13 unless not (twice (reply.doors ws))
-    then 14 unless not (any (strays ws) ws)
 
 -- over all files of a bundle of second replies: 12 and 13
 abbrev pub secondOverCheck : List ℕ → ℕ

@@ -6,7 +6,6 @@ use mathlib.Core.List.{List, _∷_, map, map-map, flatten, Memᴰ·map, Memᴰ·
 use Prim.Native.Nat.{ℕ, _^_, _≤_, _<_}
 use native.Mathlib.Omega.{arith}
 use native.Mathlib.Decide.{decLe}
-use lib.Dec.{T}
 use lib.ListN.{length, getD, drop, length-map}
 use Rattle.sets.specs.Sets.{Mem, filter, member}
 use Rattle.sets.proofs.Tests.{same-test}
@@ -14,10 +13,10 @@ use Rattle.sets.proofs.Sets.{member-iff, lists-unique}
 use Rattle.sets.proofs.Filter.{map-agree, map-filter-iff}
 use Rattle.sets.proofs.Lengths.{ascending-distinct}
 use Rattle.sets.proofs.Distinct.{distinct-map}
-use Rattle.files.specs.Field.{siteOf, labelsOf, nodeOf, rootOf, pair, pairOf, file, doorWord}
+use Rattle.files.specs.Field.{siteOf, labelsOf, nodeOf, rootOf, pair, file, doorWord}
 use Rattle.files.specs.Part.{isDoor, partCheck, doors as partDoors, roots as partRoots}
 use Rattle.files.specs.Path.{pathCheck}
-use Rattle.files.specs.Reply.{isReach, replyCheck, doors, roots, rows}
+use Rattle.files.specs.Reply.{replyCheck, doors, roots, rows}
 use Rattle.files.proofs.Fields.{labels-below, site-below}
 use Rattle.files.proofs.Blocks.{doors-nodes, node-small}
 use Rattle.files.proofs.Parts.{doors-ascending, one-root, roots-of-doors}
@@ -29,8 +28,8 @@ use Rattle.expressions.proofs.Paths.{path-count, path-small}
 use Rattle.walks.specs.Product.{positions}
 use Rattle.walks.proofs.Product.{states-iff, states-ascending}
 use Rattle.first_replies.specs.FirstReply.{IsFirstReply, rowWords, doorRows, reported, doorWords, firstReply}
-use Rattle.first_replies.proofs.Reported.{Outbound, reported-is, reported-good, reported-outbound, reported-none}
-use Rattle.first_replies.proofs.Written.{Good, block, doors-read, written-words, written-reach, doors-written, roots-written, rows-written, rows-above}
+use Rattle.first_replies.proofs.Reported.{reported-is, reported-good, reported-none}
+use Rattle.first_replies.proofs.Written.{Good, block, doors-read, written-words, doors-written, roots-written, rows-written, rows-above}
 
 module _ (part path : List ℕ) (p : partCheck part ≡ 0) (a : pathCheck path ≡ 0) where
   abbrev ws : List ℕ
@@ -86,13 +85,6 @@ module _ (part path : List ℕ) (p : partCheck part ≡ 0) (a : pathCheck path �
         | no h ↦ rows-above n few (reported ws e) good ds d (k .0) q (k .1) (omega arith) l
             ∙ sym (reported-none ws e small (nodeOf (k .0)) q l (doors-nodes ws (nodeOf (k .0)) (Memᴰ·map nodeOf (k .1))) (omega (arith, path-count path a)))
       ])
-
-  -- a reach word's pair is at the end of an edge that leaves the part
-  pub first-reach : (v : ℕ) → Mem v (drop 1 (firstReply part path)) → T (isReach v) → Outbound ws e (pairOf v)
-  first-reach v m t =
-      let k = written-reach n few (reported ws e) good ds v (rw first-is at m) t in
-      let d = doors-nodes ws (nodeOf (k .0)) (Memᴰ·map nodeOf (k .2)) in
-      reported-outbound ws e small (nodeOf (k .0)) (k .1) (omega (arith, few, k .3)) d (pairOf v) (k .4)
 
   -- a door is marked as root where its node is one of the roots
   root-mark : (w : ℕ) → Mem w ds → rootOf w ≡ member (nodeOf w) (partRoots ws)

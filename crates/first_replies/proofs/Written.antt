@@ -12,7 +12,7 @@ use borrow.Author.Tests.{eq-eqb, ne-eqb}
 use Rattle.sets.specs.Sets.{Mem, here, there, Ascending, Distinct, filter}
 use Rattle.sets.proofs.Sets.{flatten-map-iff}
 use Rattle.sets.proofs.Filter.{filter-append, filter-none, filter-all}
-use Rattle.files.specs.Field.{kindOf, nodeOf, rootOf, doorRootOf, stateOf, pair, pairNode, pairState, pairOf, doorWord, rowWord, reachWord}
+use Rattle.files.specs.Field.{kindOf, nodeOf, rootOf, doorRootOf, stateOf, pair, pairNode, pairState, doorWord, rowWord, reachWord}
 use Rattle.files.specs.declared.reply.Seen.{Seen}
 use Rattle.files.specs.Reply.{start, isDoorWord, isRow, isReach, scan, doors, roots, front, row, rows}
 use Rattle.files.proofs.Checks.{checks}
@@ -207,17 +207,6 @@ module _ (n : ℕ) (small : n < 16) where
         go : (w : ℕ) → Mem v (block r n w) → v < 2 ^ 32
         go w (here e) = rw e (made w .word)
         go w (there m) = rows-words (λ v. v < 2 ^ 32) (r (nodeOf w)) states (good-rows w) (λ q v h. h .word) (λ q c v i k h. h .word) v m
-
-    -- a reach word holds a pair that is reported of a door
-    pub written-reach : (ds : List ℕ) (v : ℕ) → Mem v (flatten (map (block r n) ds)) → T (isReach v)
-        → (w : ℕ) × (q : ℕ) × Mem w ds × (q ≤ n) × Mem (pairOf v) (r (nodeOf w) q)
-    written-reach ds v m t = let k = flatten-map-iff (block r n) v ds .0 m in let g = go (k .0) (k .2) t in (k .0, g .0, k .1, g .1, g .2)
-      where
-        go : (w : ℕ) → Mem v (block r n w) → T (isReach v) → (q : ℕ) × (q ≤ n) × Mem (pairOf v) (r (nodeOf w) q)
-        go w (here e) t = absurd (rw (e, made w .kind-is) at t)
-        go w (there m) t =
-            rows-words (λ v. T (isReach v) → (q : ℕ) × (q ≤ n) × Mem (pairOf v) (r (nodeOf w) q)) (r (nodeOf w)) states (good-rows w)
-            (λ q v h t. absurd (rw (h .kind-is) at t)) (λ q c v i k h t. (q, i, rw (h .pair-is) k)) v m t
 
     -- a test that no row or reach word passes chooses among the door words
     chosen-written : (p t : ℕ → Bool) → ((v : ℕ) → kindOf v ≡ 9 → p v ≡ false) → ((v : ℕ) → kindOf v ≡ 10 → p v ≡ false)

@@ -1,22 +1,25 @@
 -- The hub's call list, of an accepted bundle: the rows of the bundle are those of its files; the called pairs are all that is reached by
 -- the rows from the root's; and the call list is an accepted file. Assumes nothing.
 use mathlib.Core.Path.{_≡_, refl, sym, _∙_, ap}
-use mathlib.Core.Bool.{_&&_}
+use mathlib.Core.Logic.{_↔_, inl, inr}
+use mathlib.Core.Bool.{not, _&&_}
 use mathlib.Core.List.{List, map, flatten, Memᴰ·of-map}
 use Prim.Native.Nat.{ℕ, suc, _*_, _^_, _≤_, _<_}
 use native.Mathlib.Omega.{arith}
 use lib.ListN.{length, getD, drop, length-map}
-use Rattle.sets.specs.Sets.{Mem, Lists, filter}
+use Rattle.sets.specs.Sets.{Mem, Lists, filter, member, any}
 use Rattle.sets.specs.Reach.{Reach}
-use Rattle.sets.proofs.Sets.{flatten-iff, unique}
+use Rattle.sets.proofs.Sets.{flatten-iff, unique, member-iff}
+use Rattle.sets.proofs.Tests.{either, is-true, passed}
+use Rattle.sets.proofs.Filter.{any-iff, all-iff, not-member-iff}
 use Rattle.sets.proofs.Reach.{closure-lists, reach-least, reach-is-least, least-unique}
 use Rattle.files.specs.Field.{labelsOf, nodeOf, doorRootOf, pair, pairOf, pairNode, pairState, file, callWord}
 use Rattle.files.specs.Word.{bytesOf}
-use Rattle.files.specs.Outcome.{outcome}
+use Rattle.files.specs.Outcome.{refused, outcome}
 use Rattle.files.specs.Bundle.{firstBundleCheck}
 use Rattle.files.specs.Calls.{callsCheck}
 use Rattle.files.specs.Reply.{isDoorWord, replyCheck, doors, roots, rows}
-use Rattle.files.proofs.Checks.{then-zero, room-checked}
+use Rattle.files.proofs.Checks.{then-zero, unless-iff, room-checked}
 use Rattle.files.proofs.Words.{words-bytes, size-checked}
 use Rattle.files.proofs.Fields.{Header, header, holder, node-below, pair-below, pair-state, pair-of-below, pair-of-state, labels-below}
 use Rattle.files.proofs.Rows.{rows-flatten, rows-reach}
@@ -25,7 +28,7 @@ use Rattle.files.proofs.Bundles.{Firsts, firsts-labels, calls-made, file-stops,
 use Rattle.files.proofs.Ordered.{calls-read}
 use Rattle.files.specs.Limits.{replyWords, bundleWords, workBytes}
 pub use Rattle.hub_search.specs.Search.{seeds}
-use Rattle.hub_calls.specs.CallList.{IsCallList, called, callList, callListCall}
+use Rattle.hub_calls.specs.CallList.{IsCallList, called, stray, strayCheck, callList, callListCall}
 
 -- Of any words
 
@@ -65,6 +68,34 @@ module _ (bundle : List ℕ) where
       let i = least-unique (a .set) (b .set) in
       a .is ∙ ap (λ cs. file 11 0 (labelsOf (getD bundle 0 0)) (map callWord cs))
       (unique (a .pairs) (b .pairs) (a .ascending) (b .ascending) (λ c m. i c .0 m, λ c m. i c .1 m)) ∙ sym (b .is)
+
+  -- 14 is not given just if every called pair names a door
+  pub stray-iff : (strayCheck bundle ≡ 0) ↔ ((c : ℕ) → Mem c (called bundle) → Mem (pairNode c) (doors bundle))
+  stray-iff =
+      let u = unless-iff 14 (not (any (stray bundle) (called bundle))) refl in
+      let a = all-iff (λ c. member (pairNode c) (doors bundle)) (called bundle) in (
+        λ e c m. member-iff (pairNode c) (doors bundle) .0 (a .0 (u .0 e) c m),
+        λ h. u .1 (a .1 (λ c m. member-iff (pairNode c) (doors bundle) .1 (h c m))),
+      )
+
+  -- it is given just if some called pair names no door
+  pub stray-given : (strayCheck bundle ≡ 14) ↔ ((c : ℕ) × Mem c (called bundle) × (Mem (pairNode c) (doors bundle) → ⊥))
+  stray-given =
+      let a = any-iff (stray bundle) (called bundle) in (
+        λ e. elim (either (any (stray bundle) (called bundle))) [
+          | inl t ↦ let (c, m, s) = a .0 (passed t) in (c, m, not-member-iff (pairNode c) (doors bundle) .0 s)
+          | inr n ↦ absurd (omega (arith, rw n at e))
+        ],
+        λ (c, m, n). rw (is-true (any (stray bundle) (called bundle)) (a .1 (c, m, not-member-iff (pairNode c) (doors bundle) .1 n))),
+      )
+
+  -- so of any list that is the document's call list, nobody having to believe how `called` is computed
+  pub stray-least : {f : List ℕ} (l : IsCallList bundle f) → (strayCheck bundle ≡ 14) ↔ ((c : ℕ) × Mem c (l .pairs) × (Mem (pairNode c) (doors bundle) → ⊥))
+  stray-least l =
+      let i = least-unique (reach-is-least (called bundle) called-lists) (l .set) in (
+        λ e. let (c, m, n) = stray-given .0 e in (c, i c .0 m, n),
+        λ (c, m, n). stray-given .1 (c, i c .1 m, n),
+      )
 
 -- Of an accepted bundle
 
@@ -117,10 +148,20 @@ module _ (n : ℕ) (fs : List (List ℕ)) (b : Firsts n fs) where
 
 -- The call
 
--- written as bytes, an accepted bundle is accepted by the call
+-- written as bytes, an accepted bundle whose called pairs name doors is accepted by the call
 pub calls-outcome : (out work : ℕ) (bundle : List ℕ) → 4 * replyWords ≤ out → workBytes ≤ work → ((w : ℕ) → Mem w bundle → w < 2 ^ 32)
-    → 0 < length bundle → length bundle ≤ bundleWords → firstBundleCheck bundle ≡ 0
+    → 0 < length bundle → length bundle ≤ bundleWords → firstBundleCheck bundle ≡ 0 → strayCheck bundle ≡ 0
     → callListCall out work (bytesOf bundle) ≡ outcome 0 replyWords (callList bundle)
 unfolding callListCall
-calls-outcome out work bundle h k w s l c =
-    rw (words-bytes bundle w) (ap (λ e. outcome e replyWords (callList bundle)) (then-zero (room-checked replyWords out work h k) (then-zero (size-checked bundleWords bundle s l) c)))
+calls-outcome out work bundle h k w s l c d =
+    rw (words-bytes bundle w) (ap (λ e. outcome e replyWords (callList bundle))
+    (then-zero (room-checked replyWords out work h k) (then-zero (size-checked bundleWords bundle s l) (then-zero c d))))
+
+-- one with a called pair that names no door is refused with 14, however long the call list
+pub calls-stray : (out work : ℕ) (bundle : List ℕ) → 4 * replyWords ≤ out → workBytes ≤ work → ((w : ℕ) → Mem w bundle → w < 2 ^ 32)
+    → 0 < length bundle → length bundle ≤ bundleWords → firstBundleCheck bundle ≡ 0
+    → (c : ℕ) → Mem c (called bundle) → (Mem (pairNode c) (doors bundle) → ⊥)
+    → callListCall out work (bytesOf bundle) ≡ refused 14
+unfolding callListCall
+calls-stray out work bundle h k w s l c x m n =
+    rw (words-bytes bundle w, room-checked replyWords out work h k, size-checked bundleWords bundle s l, c, stray-given bundle .1 (x, m, n))

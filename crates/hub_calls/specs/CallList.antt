@@ -1,15 +1,16 @@
 -- Believed. The hub's call list. Document 01, "Call list".
 use Prim.Native.Nat.{ℕ}
 use mathlib.Core.Path.{_≡_}
+use mathlib.Core.Bool.{Bool, not}
 use mathlib.Core.List.{List, map}
 use lib.ListN.{getD}
-use Rattle.sets.specs.Sets.{Mem, Ascending}
+use Rattle.sets.specs.Sets.{Mem, Ascending, member, any}
 use Rattle.sets.specs.Reach.{Least, closure}
 use Rattle.files.specs.Word.{words}
-use Rattle.files.specs.Field.{labelsOf, file, pair, callWord}
-use Rattle.files.specs.Refuse.{_then_, roomCheck, sizeCheck}
+use Rattle.files.specs.Field.{labelsOf, file, pair, pairNode, callWord}
+use Rattle.files.specs.Refuse.{_then_, _unless_, roomCheck, sizeCheck}
 use Rattle.files.specs.Outcome.{Outcome, outcome}
-use Rattle.files.specs.Reply.{roots, rows}
+use Rattle.files.specs.Reply.{doors, roots, rows}
 use Rattle.files.specs.Bundle.{firstBundleCheck}
 use Rattle.files.specs.Limits.{replyWords, bundleWords}
 
@@ -28,6 +29,15 @@ called bundle = closure (rows bundle) (map (λ x. pair x 0) (roots bundle))
 unfoldable pub callList : List ℕ → List ℕ
 callList bundle = file 11 0 (labelsOf (getD bundle 0 0)) (map callWord (called bundle))
 
+-- Document 02, request 5: "number 14 at the hub is given exactly if a pair of the call list's least set names a node that is no door. The set
+-- takes such pairs in first and the check follows." It is the last check over all files, after 12, 7 and 13.
+abbrev pub stray : List ℕ → ℕ → Bool
+stray bundle c = not (member (pairNode c) (doors bundle))
+
+abbrev pub strayCheck : List ℕ → ℕ
+strayCheck bundle = 14 unless not (any (stray bundle) (called bundle))
+
 unfoldable pub callListCall : ℕ → ℕ → List ℕ → Outcome
 callListCall out work bundle =
-    outcome (roomCheck replyWords out work then sizeCheck bundleWords bundle then firstBundleCheck (words bundle)) replyWords (callList (words bundle))
+    outcome (roomCheck replyWords out work then sizeCheck bundleWords bundle then firstBundleCheck (words bundle) then strayCheck (words bundle)) replyWords
+    (callList (words bundle))

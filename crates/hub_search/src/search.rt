@@ -1,160 +1,50 @@
-// The search for the called pairs, over tables by the places of the bundle's words: at a door word the states reached, in the front half
-// of the working buffer, and those of them that are pending, in the second half.
-use files::cursor::Cursor;
-use files::cursor::Step;
-use files::field::node;
-use files::field::state;
-use files::reply::door_root;
-use files::reply::is_door_of;
-use files::reply::is_door_word;
-use files::reply::is_reach;
-use files::reply::is_row;
-use files::word::word_at;
-use sets::states::has;
-use sets::states::minus;
-use sets::states::with;
+// The search for the called pairs: from the root's, the rows of pending states are followed until none is left, or until a pair names no door.
+use crate::enter::enter;
+use crate::follow::follow_rows;
+use door_index::index::INDEX;
+use kinds::count::Mark;
+use kinds::find::find_kind;
 use sets::table::get16;
 use sets::table::put16;
 ghost use mathlib.Core.Path.{_≡_};
-ghost use mathlib.Core.Bool.{true, false, not, _&&_};
-ghost use Prim.Native.Nat.{ℕ, suc, _/_, _≤_, _<_};
-ghost use lib.Dec.{eqb};
-ghost use lib.ListN.{length, drop};
-ghost use Rattle.sets.specs.States.{hasState};
-ghost use Rattle.files.specs.Reply.{isDoorOf};
+ghost use Prim.Native.Nat.{ℕ, _<_};
+ghost use lib.ListN.{length};
+ghost use Rattle.sets.specs.Table.{half};
+ghost use Rattle.files.specs.Reply.{roots};
 ghost use Rattle.files.specs.Word.{words};
-ghost use Rattle.files.specs.Outcome.{zeros};
-ghost use Rattle.files.specs.Limits.{bundleWords, workBytes};
-ghost use Rattle.bundles.specs.Seek.{FirstThat};
-ghost use Rattle.hub_search.specs.Search.{PairsEntered, Placed, IsRoot, InRows, PairsCalled};
+ghost use Rattle.files.specs.Limits.{bundleWords};
+ghost use Rattle.door_index.specs.Index.{DoorsOnce, Indexed};
+ghost use Rattle.hub_search.specs.Search.{Roomy, Waiting, PairsEntered, Placed, IsRoot, Searched};
 
-// Where the table of pending states begins.
-const SECOND_HALF: usize = 16384;
-
-// The place of the door of x, or the number of words where there is none.
-pub fn find_door(bundle: &[u8], x: u32) -> usize
-    ensures { λ r. ⌜ FirstThat (isDoorOf x) (words (now (bundle .entry))) r ⌝ }
+// Enters the root's pair. Gives the stack's height.
+fn seed(bundle: &[u8], work: &mut [u8], doors: usize) -> usize
+    requires { ⌜ Roomy (words (now bundle)) doors (now work) × Waiting (words (now bundle)) doors (now work) 0 ⌝ }
+    requires { ⌜ DoorsOnce (words (now bundle)) × (length (roots (words (now bundle))) ≡ 1) ⌝ }
+    ensures { λ r. ⌜ PairsEntered (words (now (bundle .entry))) doors (Placed (words (now (bundle .entry))) (IsRoot (words (now (bundle .entry))))) (now (work .entry)) (now (work .exit)) ⌝ }
+    ensures { λ r. ⌜ Waiting (words (now (bundle .entry))) doors (now (work .exit)) r ⌝ }
 {
-    let count = bundle.len() / 4;
-    let mut k = 0;
-    while k < count {
-        if is_door_of(x, word_at(bundle, k)) {
-            return k;
+    let k = find_kind(bundle, 8, Mark::Bit16);
+    enter(bundle, work, doors, k, 0, 0)
+}
+
+// Searches the called pairs, over an index of the doors and a table that is zero. Gives whether one of them names no door.
+pub fn search(bundle: &[u8], counts: &[u8], work: &mut [u8], doors: usize) -> bool
+    requires { ⌜ Indexed (words (now bundle)) (now counts) (now work) doors × Roomy (words (now bundle)) doors (now work) ⌝ }
+    requires { ⌜ DoorsOnce (words (now bundle)) × (length (roots (words (now bundle))) ≡ 1) ⌝ }
+    requires { ⌜ ((i : ℕ) → i < bundleWords → half (now work) 0 i ≡ 0) ⌝ }
+    ensures { λ r. ⌜ Searched (words (now (bundle .entry))) doors (now (work .entry)) (now (work .exit)) r ⌝ }
+{
+    let mut top = seed(bundle, work, doors);
+    while 0 < top {
+        top -= 1;
+        let i = get16(work, INDEX, doors + top) as usize;
+        let s = get16(work, 0, i + 1);
+        put16(work, 0, i + 1, 0);
+        let end = follow_rows(bundle, counts, work, doors, i, s, top);
+        if end.stray {
+            return true;
         }
-        k += 1;
+        top = end.top;
     }
-    k
-}
-
-// Enters state q at place j; it is pending where it is new.
-fn enter(work: &mut [u8], j: usize, q: u32)
-    requires { ⌜ (workBytes ≤ length (now work)) × (j < bundleWords) × (q < 16) ⌝ }
-    ensures { λ _. ⌜ PairsEntered (λ i p. (i ≡ j) × (p ≡ q)) (now (work .entry)) (now (work .exit)) ⌝ }
-{
-    let r = get16(work, 0, j);
-    if has(r, q) {
-        return;
-    }
-    let p = get16(work, SECOND_HALF, j);
-    put16(work, 0, j, with(r, q));
-    put16(work, SECOND_HALF, j, with(p, q));
-}
-
-// Enters a pair at its node's door.
-fn enter_pair(bundle: &[u8], work: &mut [u8], c: u32)
-    requires { ⌜ (workBytes ≤ length (now work)) × (length (now bundle) / 4 ≤ bundleWords) ⌝ }
-    ensures { λ _. ⌜ PairsEntered (Placed (words (now (bundle .entry))) (λ d. d ≡ c)) (now (work .entry)) (now (work .exit)) ⌝ }
-{
-    let j = find_door(bundle, c / 16);
-    if j < bundle.len() / 4 {
-        enter(work, j, c % 16);
-    }
-}
-
-// Enters a pair at its node's door, if a test passed.
-fn enter_if(bundle: &[u8], work: &mut [u8], b: bool, c: u32)
-    requires { ⌜ (workBytes ≤ length (now work)) × (length (now bundle) / 4 ≤ bundleWords) ⌝ }
-    ensures { λ _. ⌜ PairsEntered (Placed (words (now (bundle .entry))) (λ d. (b ≡ true) × (d ≡ c))) (now (work .entry)) (now (work .exit)) ⌝ }
-{
-    if b {
-        enter_pair(bundle, work, c);
-    }
-}
-
-// Enters the root's pair.
-fn seed_roots(bundle: &[u8], work: &mut [u8])
-    requires { ⌜ (workBytes ≤ length (now work)) × (length (now bundle) / 4 ≤ bundleWords) ⌝ }
-    ensures { λ _. ⌜ PairsEntered (Placed (words (now (bundle .entry))) (IsRoot (words (now (bundle .entry))))) (now (work .entry)) (now (work .exit)) ⌝ }
-{
-    let mut cur = Cursor { at: 0 };
-    loop {
-        match cur.read(bundle) {
-            Step::Word(w, next) => {
-                enter_if(bundle, work, is_door_word(w) & door_root(w), 16 * node(w));
-                cur = next;
-            }
-            Step::End => {
-                return;
-            }
-        }
-    }
-}
-
-// The set without a state.
-fn without(s: u16, q: u32) -> u16
-    requires { ⌜ q < 16 ⌝ }
-    ensures { λ r. ⌜ ((p : ℕ) → hasState r p ≡ (hasState s p && not (eqb p q))) ⌝ }
-{
-    minus(s, with(0, q))
-}
-
-// Follows the rows behind place i of the states in s: enters the pairs of their reach words. Of two rows of a state the first counts.
-fn follow_rows(bundle: &[u8], work: &mut [u8], i: usize, s: u16)
-    requires { ⌜ (workBytes ≤ length (now work)) × (length (now bundle) / 4 ≤ bundleWords) × (i < bundleWords) ⌝ }
-    ensures { λ _. ⌜ PairsEntered (Placed (words (now (bundle .entry))) (InRows s (drop (suc i) (words (now (bundle .entry)))))) (now (work .entry)) (now (work .exit)) ⌝ }
-{
-    let mut left = s;
-    let mut on = false;
-    let mut cur = Cursor { at: i + 1 };
-    loop {
-        match cur.read(bundle) {
-            Step::Word(w, next) => {
-                if is_row(w) {
-                    let q = state(w);
-                    on = has(left, q);
-                    left = without(left, q);
-                    cur = next;
-                } else if is_reach(w) {
-                    enter_if(bundle, work, on, w % 0x10_0000);
-                    cur = next;
-                } else {
-                    return;
-                }
-            }
-            Step::End => {
-                return;
-            }
-        }
-    }
-}
-
-// The called pairs, in a cleared working buffer: while some place has pending states, they are taken and their rows followed.
-pub fn search(bundle: &[u8], work: &mut [u8])
-    requires { ⌜ (workBytes ≤ length (now work)) × (length (now bundle) / 4 ≤ bundleWords) ⌝ }
-    requires { ⌜ now work ≡ zeros (length (now work)) ⌝ }
-    ensures { λ _. ⌜ PairsCalled (words (now (bundle .entry))) (now (work .exit)) ⌝ }
-{
-    seed_roots(bundle, work);
-    let count = bundle.len() / 4;
-    let mut i = 0;
-    while i < count {
-        let s = get16(work, SECOND_HALF, i);
-        if s == 0 {
-            i += 1;
-        } else {
-            put16(work, SECOND_HALF, i, 0);
-            follow_rows(bundle, work, i, s);
-            i = 0;
-        }
-    }
+    false
 }

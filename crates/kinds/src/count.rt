@@ -15,7 +15,7 @@ pub enum Mark {
     Bit17,
 }
 
-fn is_of_kind(w: u32, k: u32, mark: Mark) -> bool
+pub fn is_of_kind(w: u32, k: u32, mark: Mark) -> bool
     ensures { λ r. ⌜ r ≡ ofKind k mark w ⌝ }
 {
     let same = kind(w) == k;

@@ -1,17 +1,17 @@
 -- The old search's code: the search from the root, and the final list that is written. Assumes nothing.
 use mathlib.Core.Path.{_≡_, refl, sym, _∙_, ap, subst}
-use mathlib.Core.Logic.{⊎-elim}
-use mathlib.Core.Bool.{Bool, true, false}
+use mathlib.Core.Bool.{true}
 use mathlib.Core.List.{List, [], _∷_, map, List·Memᴰ·eq-of-singleton}
-use Prim.Native.Nat.{ℕ, _+_, _^_, _≤_, _<_}
-use native.Mathlib.Omega.{arith}
+use Prim.Native.Nat.{ℕ, _^_, _<_}
 use lib.ListN.{length, getD, drop}
 use Rattle.sets.specs.Sets.{Mem, here}
-use Rattle.sets.proofs.Cases.{and-left, and-right, and-intro, clash, eq-or-ne}
+use Rattle.sets.proofs.Cases.{and-left, and-right, and-intro}
 use Rattle.files.specs.Field.{rootOf, pair, answerWord}
 use Rattle.files.specs.Outcome.{zeros}
 use Rattle.files.specs.Part.{isNode, isRoot, roots, wholeCheck}
 use Rattle.files.proofs.Parts.{whole-part, whole-root}
+use Rattle.kinds.specs.Seek.{FirstThat}
+use Rattle.kinds.proofs.Seeking.{first-passes}
 use Rattle.files.specs.Limits.{finalWords}
 use Rattle.expressions.specs.Expr.{Expr}
 use Rattle.expressions.specs.Positions.{accepts}
@@ -35,13 +35,6 @@ use Rattle.listing.proofs.Answering.{answers-are}
 use Rattle.old.specs.Old.{listed}
 use Rattle.old.proofs.OldSearch.{rootPairs, listed-is}
 
--- no root before i
-pub record Rootless (ws : List ℕ) (i : ℕ) : Type 0 where
-  pub none : (j : ℕ) → j < i → isRoot (getD ws j 0) ≡ true → ⊥
-
-pub rootless-none : (ws : List ℕ) → Rootless ws 0
-rootless-none ws = record { none = λ j l. absurd (omega arith) }
-
 -- a root word is a node word
 pub root-node : (ws : List ℕ) (i : ℕ) → isRoot (getD ws i 0) ≡ true → nodeAt ws i ≡ true
 unfolding nodeAt
@@ -56,8 +49,8 @@ module _ (ws : List ℕ) (c : wholeCheck ws ≡ 0) where
       let (j, n, t, q) = with-iff ws (whole-part ws c) rootOf r .0 (subst (Mem r) (sym e) (here refl)) in
       (j, node-below ws j n, and-intro (isNode (getD ws j 0)) (rootOf (getD ws j 0)) n t)
 
-  pub root-is : (i : ℕ) → ((j : ℕ) → j < length ws → isRoot (getD ws j 0) ≡ true → isRoot (getD ws i 0) ≡ true) → isRoot (getD ws i 0) ≡ true
-  root-is i f = let (j, l, t) = root-there in f j l t
+  pub root-is : (i : ℕ) → FirstThat isRoot ws i → isRoot (getD ws i 0) ≡ true
+  root-is i f = let (j, l, t) = root-there in first-passes f j l t
 
   -- the number at a root word is the root
   module _ (i : ℕ) (root : isRoot (getD ws i 0) ≡ true) where
@@ -76,20 +69,6 @@ module _ (ws : List ℕ) (c : wholeCheck ws ≡ 0) where
           rw root-number
           (answers-are ws t (a .follow) w₂ w₃ searched (tab .laid) e (pair (number ws i) 0 ∷ []) (follows a e h) (tab .masked)
           (seeded .marks [] (marks-none ws w₁ (prepared .blank))) (a .accepts) small (h .accepting))
-
--- no root yet, and one more word
-pub rootless-more : {ws : List ℕ} {i : ℕ} (w : ℕ) {b : Bool} → w ≡ getD ws i 0 → b ≡ isRoot w → b ≡ false → Rootless ws i → Rootless ws (i + 1)
-rootless-more {ws} {i} w g e f r = record {
-  none = λ j l t. ⊎-elim (λ (q : j ≡ i). clash (subst (λ k. isRoot (getD ws k 0) ≡ true) q t) (ap isRoot (sym g) ∙ sym e ∙ f)) (λ n. r .none j (omega (arith, n)) t) (eq-or-ne j i);
-}
-
-pub rootless-all : {ws : List ℕ} {i : ℕ} (r : ℕ) → length ws ≤ i → Rootless ws i
-    → (j : ℕ) → j < length ws → isRoot (getD ws j 0) ≡ true → isRoot (getD ws r 0) ≡ true
-rootless-all r h p j l t = absurd (p .none j (omega arith) t)
-
-pub root-found : (ws : List ℕ) (i w : ℕ) {b : Bool} → w ≡ getD ws i 0 → b ≡ isRoot w → b ≡ true
-    → (j : ℕ) → j < length ws → isRoot (getD ws j 0) ≡ true → isRoot (getD ws i 0) ≡ true
-root-found ws i w g e f j l t = ap isRoot (sym g) ∙ sym e ∙ f
 
 -- the answers vs, written behind the header's place and closed: of an output of m bytes, o₁ is cleared, o₂ has them, o₃ is closed
 pub list-filed : (f path vs : List ℕ) {m count r : ℕ} {o₁ o₂ o₃ : List ℕ} → Closes 15 0 0 finalWords o₂ count o₃ r → Writes finalWords (length o₁) o₁ 1 o₂ count vs

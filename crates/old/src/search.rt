@@ -1,39 +1,22 @@
 // The search over a whole plant, from the root in state 0.
 ghost use mathlib.Core.Path.{_≡_};
-ghost use mathlib.Core.Bool.{true};
 ghost use mathlib.Core.List.{map};
-ghost use Prim.Native.Nat.{ℕ, _<_, _≤_};
-ghost use lib.ListN.{length, drop, getD};
+ghost use Prim.Native.Nat.{_≤_};
+ghost use lib.ListN.{length, drop};
 ghost use Rattle.files.specs.Word.{words};
 ghost use Rattle.files.specs.Field.{pair, answerWord};
-ghost use Rattle.files.specs.Part.{isRoot, roots, wholeCheck};
+ghost use Rattle.files.specs.Part.{roots, wholeCheck};
 ghost use Rattle.files.specs.Limits.{partWords, workBytes};
 ghost use Rattle.expressions.specs.Expr.{Expr};
 ghost use Rattle.paths.specs.Automaton.{Automates};
 ghost use Rattle.walks.specs.Product.{answers};
 ghost use Rattle.listing.specs.Listing.{answerWords};
-use files::part::is_root;
-use files::word::word_at;
+use kinds::count::Mark;
+use kinds::find::find_kind;
 use part_search::search::run;
 use part_search::search::seed;
 use paths::automaton::Automaton;
 use preparing::prepare::prepare;
-
-// The position of the root's node word, where there is one.
-fn root_position(whole: &[u8]) -> usize
-    ensures { λ r. ⌜ ((j : ℕ) → j < length (words (now (whole .entry))) → isRoot (getD (words (now (whole .entry))) j 0) ≡ true
-        → isRoot (getD (words (now (whole .entry))) r 0) ≡ true) ⌝ }
-{
-    let n = whole.len() / 4;
-    let mut i = 0;
-    while i < n {
-        if is_root(word_at(whole, i)) {
-            return i;
-        }
-        i += 1;
-    }
-    0
-}
 
 // Searches from the root.
 pub fn search(whole: &[u8], a: Automaton, work: &mut [u8])
@@ -42,7 +25,7 @@ pub fn search(whole: &[u8], a: Automaton, work: &mut [u8])
         ≡ map answerWord (answers (drop 1 (words (now (whole .entry)))) e (map (λ x. pair x 0) (roots (drop 1 (words (now (whole .entry)))))))) ⌝ }
 {
     let outside = prepare(whole, a, work);
-    let i = root_position(whole);
+    let i = find_kind(whole, 2, Mark::Bit17);
     let top = seed(whole, work, outside, i, 0, 0);
     let follow = a.follow;
     run(whole, follow, work, outside, top);

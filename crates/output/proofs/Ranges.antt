@@ -38,7 +38,7 @@ unfolding members
 members-more p at d = let e : suc d ≡ d + 1 = omega arith in ap (members p at) e ∙ members-append p at d 1
 
 -- a range read at another start
-members-shift : (p p′ : ℕ → Bool) (x at d : ℕ) → ((q : ℕ) → q < at + d → p (x + q) ≡ p′ q) → members p (x + at) d ≡ map (λ q. x + q) (members p′ at d)
+pub members-shift : (p p′ : ℕ → Bool) (x at d : ℕ) → ((q : ℕ) → q < at + d → p (x + q) ≡ p′ q) → members p (x + at) d ≡ map (λ q. x + q) (members p′ at d)
 unfolding members
 members-shift p p′ x at zero h = refl
 members-shift p p′ x at (suc d) h =

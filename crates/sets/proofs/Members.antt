@@ -3,16 +3,17 @@ use mathlib.Core.Path.{_≡_, refl, sym, ap, ap₂, _∙_}
 use mathlib.Core.Logic.{_⊎_, inl, inr, ⊎-elim}
 use mathlib.Core.Bool.{Bool, true, false, not, _&&_, and-true}
 use mathlib.Core.List.{List, [], _∷_, List·Memᴰ, List·Memᴰ·head, List·Memᴰ·tail, List·Memᴰ·not-nil, List·Memᴰ·cases-cons}
-use Prim.Native.Nat.{ℕ, zero, suc, _+_, _-_, _/_, _^_, _≤_, _<_}
-use native.Mathlib.Nat.{le-refl, eq-or-lt-of-le}
+use Prim.Native.Nat.{ℕ, zero, suc, _+_, _-_, _/_, _%_, _^_, _≤_, _<_}
+use native.Mathlib.Nat.{le-refl, eq-or-lt-of-le, mod-lt}
 use native.Mathlib.Omega.{arith}
 use borrow.Author.Tests.{eq-eqb, ne-eqb}
 use lib.Dec.{eqb}
 use lib.Bits.{bitAnd}
+use lib.Pow.{pow-pos}
 use lib.Count.{trailingZeros, ones, ones-step}
-use lib.ListN.{length}
+use lib.ListN.{length, getD}
 use Rattle.sets.specs.States.{hasState, keep, members}
-use Rattle.sets.proofs.StateSets.{has-zero, has-suc, has-empty, has-clear, lowest-is, one-odd}
+use Rattle.sets.proofs.StateSets.{has-zero, has-suc, has-empty, has-clear, has-low, lowest-is, one-odd}
 use Rattle.sets.specs.Tally.{one}
 
 -- two tests that agree on the range
@@ -89,6 +90,12 @@ length-states (suc w) s h =
     length-keep (hasState s 0) 0 (members (hasState s) 1 w)
     ∙ rw (has-zero, one-odd, length-shift (hasState s) (hasState (s / 2)) 0 w (has-suc s), length-states w (s / 2) (omega arith), ← ones-step s)
 
+-- and so is the length of the list of those below q
+pub length-below : (s q : ℕ) → length (members (hasState s) 0 q) ≡ ones (s % 2 ^ q)
+length-below s q =
+    ap length (members-same (hasState s) (hasState (s % 2 ^ q)) 0 q (λ p l u. sym (has-low q s p (omega arith))))
+    ∙ length-states q (s % 2 ^ q) (mod-lt s (pow-pos q))
+
 -- a number stands in the list where the test holds of it, and only there
 keep-in : (b : Bool) (x : ℕ) {q : ℕ} {l : List ℕ} → List·Memᴰ q l → List·Memᴰ q (keep b x l)
 keep-in true x m = List·Memᴰ·tail m
@@ -113,3 +120,46 @@ in-members p at (suc d) q m =
     ⊎-elim (λ (h : (q ≡ at) × (p at ≡ true)). (omega arith, omega arith, rw (h .0) (h .1)))
     (λ r. let i = in-members p (suc at) d q r in (omega arith, omega arith, i .2))
     (keep-cases (p at) at (members p (suc at) d) m)
+
+-- Ranks: how many members a number has below it
+
+-- the rank of a member is its position
+pub members-at : (p : ℕ → Bool) (at d x : ℕ) → x < d → p (at + x) ≡ true
+    → (length (members p at x) < length (members p at d)) × (getD (members p at d) (length (members p at x)) 0 ≡ at + x)
+unfolding members
+members-at p at zero x l m = absurd (omega arith)
+members-at p at (suc d) zero l m = let e : at + 0 ≡ at = omega arith in let t = rw e at m in rw (t, e) (omega arith, refl)
+members-at p at (suc d) (suc x) l m =
+    let e : at + suc x ≡ suc at + x = omega arith in
+    rw e (later (p at) (members-at p (suc at) d x (omega arith) (rw e at m)))
+  where
+    later : (b : Bool) → (length (members p (suc at) x) < length (members p (suc at) d)) × (getD (members p (suc at) d) (length (members p (suc at) x)) 0 ≡ suc at + x)
+        → (length (keep b at (members p (suc at) x)) < length (keep b at (members p (suc at) d)))
+        × (getD (keep b at (members p (suc at) d)) (length (keep b at (members p (suc at) x))) 0 ≡ suc at + x)
+    later true (l, g) = (omega arith, g)
+    later false (l, g) = (l, g)
+
+-- a position is the rank of the member there
+pub record RankAt (p : ℕ → Bool) (at d : ℕ) (xs : List ℕ) (k x : ℕ) : Type 0 where
+  pub below : x < d
+  pub passes : p (at + x) ≡ true
+  pub is : getD xs k 0 ≡ at + x
+  pub rank : length (members p at x) ≡ k
+
+pub member-rank : (p : ℕ → Bool) (at d k : ℕ) → k < length (members p at d) → (x : ℕ) × RankAt p at d (members p at d) k x
+unfolding members
+member-rank p at zero k l = absurd (omega arith)
+member-rank p at (suc d) k l = by (p at) refl k l (member-rank p (suc at) d)
+  where
+    by : (b : Bool) → p at ≡ b → (k : ℕ) → k < length (keep b at (members p (suc at) d))
+        → ((k : ℕ) → k < length (members p (suc at) d) → (x : ℕ) × RankAt p (suc at) d (members p (suc at) d) k x)
+        → (x : ℕ) × RankAt p at (suc d) (keep b at (members p (suc at) d)) k x
+    by true e zero l f = let z : at + 0 ≡ at = omega arith in (0, record { below = omega arith; passes = rw z e; is = rw z refl; rank = refl })
+    by true e (suc k) l f =
+        let (x, r) = f k (omega arith) in
+        let z : at + suc x ≡ suc at + x = omega arith in
+        (suc x, record { below = omega (arith, r .below); passes = rw z (r .passes); is = rw z (r .is); rank = rw (e, r .rank) })
+    by false e k l f =
+        let (x, r) = f k l in
+        let z : at + suc x ≡ suc at + x = omega arith in
+        (suc x, record { below = omega (arith, r .below); passes = rw z (r .passes); is = rw z (r .is); rank = rw (e, r .rank) })

@@ -1,6 +1,6 @@
 -- A search by pending pairs, over any steps between pairs (i, q) of a place and a state: what holds between its turns, and what a turn does
 -- to it. A turn takes all pending states of one place and enters what they step to. It speaks of tests, and of no bytes. Assumes nothing.
-use mathlib.Core.Path.{_≡_, refl, sym, ap, _∙_}
+use mathlib.Core.Path.{_≡_, refl, sym, ap, subst, _∙_}
 use mathlib.Core.Logic.{_⊎_, ⊎-elim, _↔_}
 use mathlib.Core.Bool.{Bool, true, false, not, _&&_, _||_, and-false}
 use Prim.Native.Nat.{ℕ, _+_, _*_, _/_, _%_, _<_}
@@ -115,17 +115,19 @@ module _ (n : ℕ) (Step : ℕ → ℕ → ℕ → ℕ → Type 0) (expands : �
       (λ a. and-left (r₂ j q) (not (r j q)) (and-right (expands j) (r₂ j q && not (r j q)) a))
       (or-elim (p₁ j q) (expands j && (r₂ j q && not (r j q))) (sym (x .fresh j q l) ∙ h))
 
+  -- what holds of a pair that was expanded before, and of those that are expanded now, holds of all that are
+  pub turn-holds : (P : ℕ → ℕ → Type 0) → ((j q : ℕ) → j < n → r j q ≡ true → p j q ≡ false → P j q) → ((q : ℕ) → p i q ≡ true → P i q)
+      → (j q : ℕ) → j < n → expands j ≡ true → r₂ j q ≡ true → p₂ j q ≡ false → P j q
+  turn-holds P before here j q l h m f =
+      let g : p₂ j q ≡ (p₁ j q || (r₂ j q && not (r j q))) = x .fresh j q l ∙ ap (λ b. p₁ j q || (b && (r₂ j q && not (r j q)))) h in
+      let c = done-before (r j q) (r₂ j q) (p₁ j q) (p₂ j q) g f m in
+      ⊎-elim (λ (t : p j q ≡ true). let e = taken j q l t (c .1) in subst (λ a. P a q) (sym e) (here q (rw e at t))) (λ t. before j q l (c .0) t) (either (p j q))
+
   turn-closed : (j q k y : ℕ) → j < n → r₂ j q ≡ true → p₂ j q ≡ false → Step j q k y → r₂ k y ≡ true
   turn-closed j q k y l m f t =
-      let g : p₂ j q ≡ (p₁ j q || (r₂ j q && not (r j q))) = x .fresh j q l ∙ ap (λ b. p₁ j q || (b && (r₂ j q && not (r j q)))) (from j q k y t) in
-      let c = done-before (r j q) (r₂ j q) (p₁ j q) (p₂ j q) g f m in
-      let k< = inside j q k y l t in
-      ⊎-elim
-      (λ h.
-      let e = taken j q l h (c .1) in
-      x .all q k y k< (rw e at h) (rw e at t))
-      (λ h. x .kept k y k< (old .closed j q k y l (c .0) h t))
-      (either (p j q))
+      turn-holds (λ j q. (k y : ℕ) → k < n → Step j q k y → r₂ k y ≡ true)
+      (λ j q l a b k y u t. x .kept k y u (old .closed j q k y l a b t)) (λ q a k y u t. x .all q k y u a t)
+      j q l (from j q k y t) m f k y (inside j q k y l t) t
 
   turn-done : (j q : ℕ) → j < n → done r p j q ≡ true → done r₂ p₂ j q ≡ true
   turn-done j q l h =

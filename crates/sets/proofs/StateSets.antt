@@ -2,9 +2,9 @@
 use mathlib.Core.Path.{_≡_, refl, sym, ap, _∙_}
 use mathlib.Core.Logic.{_⊎_, inl, inr, ⊎-elim}
 use mathlib.Core.Bool.{Bool, true, false, cond, not, _&&_, _||_, and-true, true≢false}
-use Prim.Native.Nat.{ℕ, zero, suc, _-_, _*_, _/_, _%_, _^_, _≤_, _<_}
+use Prim.Native.Nat.{ℕ, zero, suc, _+_, _-_, _*_, _/_, _%_, _^_, _≤_, _<_}
 use native.Mathlib.Nat.{div-one, div-div-eq-div-mul, pow-succ', mod-lt, le-of-suc-le-suc, not-suc-le-zero, zero-div, mod-eq-of-lt, div-eq-of-lt, lt-of-lt-of-le, one-mul}
-use lib.Pow.{pow-mono, pow-lt}
+use lib.Pow.{pow-mono, pow-lt, field, mod-mod-pow}
 use native.Mathlib.Omega.{arith}
 use lib.Dec.{eqb, eqb·zero-suc, eqb·suc-zero, eqb·suc-suc}
 use lib.Bits.{bitAnd, bitOr, bitXor, and-shr, or-shr, xor-shr, and-mod, or-mod, xor-mod, and-self, and-le-r}
@@ -211,6 +211,14 @@ has-minus w a b q ha hb = has-and a (2 ^ w - 1 - b) q ∙ ⊎-elim inside outsid
 
 pub has-below : (w s q : ℕ) → s < 2 ^ w → hasState s q ≡ true → q < w
 has-below w s q h m = ⊎-elim (λ l. l) (λ l. absurd (true≢false (sym m ∙ has-above w s q h l))) (lt-or-le q w)
+
+-- the states below w: s % 2 ^ w
+pub has-low : (w s q : ℕ) → q < w → hasState (s % 2 ^ w) q ≡ hasState s q
+unfolding hasState
+has-low w s q l =
+    let e : w ≡ (w - q - 1 + 1) + q = omega arith in
+    let a : s % 2 ^ w / 2 ^ q ≡ s / 2 ^ q % 2 ^ (w - q - 1 + 1) = ap (λ (k : ℕ). s % 2 ^ k / 2 ^ q) e ∙ field s (w - q - 1 + 1) q in
+    rw a (ap (λ (d : ℕ). eqb d 1) (mod-mod-pow (s / 2 ^ q) (w - q - 1) 1))
 
 -- ---- two sets with the same states are one number
 

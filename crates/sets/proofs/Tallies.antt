@@ -56,3 +56,19 @@ pub tally-none : (p : ℕ → Bool) (n : ℕ) → ((k : ℕ) → k < n → p k �
 unfolding tally
 tally-none p zero h = refl
 tally-none p (suc n) h = rw (h n (omega arith), tally-none p n (λ k l. h k (omega arith)))
+
+-- counted from the front
+pub tally-front : (p : ℕ → Bool) (n : ℕ) → tally p (suc n) ≡ one (p 0) + tally (λ k. p (suc k)) n
+unfolding tally
+tally-front p zero = refl
+tally-front p (suc n) = omega (arith, tally-front p n)
+
+-- two tests that exclude each other
+pub tally-apart : (p p′ : ℕ → Bool) (n : ℕ) → ((k : ℕ) → k < n → p k ≡ true → p′ k ≡ false) → tally p n + tally p′ n ≤ n
+unfolding tally
+tally-apart p p′ zero h = omega arith
+tally-apart p p′ (suc n) h = omega (arith, at-most (p n) (p′ n) (h n (omega arith)), tally-apart p p′ n (λ k l. h k (omega arith)))
+  where
+    at-most : (a b : Bool) → (a ≡ true → b ≡ false) → one a + one b ≤ 1
+    at-most true b e = rw (e refl) (le-refl 1)
+    at-most false b e = omega (arith, one-le b true (λ t. refl))

@@ -4,7 +4,7 @@ ghost use mathlib.Core.Bool.{_&&_, _||_, not};
 ghost use Prim.Native.Nat.{ℕ, _<_};
 ghost use lib.Dec.{eqb};
 ghost use lib.ListN.{length};
-ghost use Rattle.sets.specs.States.{hasState, statesOf, Lowest, Rest};
+ghost use Rattle.sets.specs.States.{hasState, members, statesOf, Lowest, Rest};
 
 pub fn has(s: u16, q: u32) -> bool
     requires { ⌜ q < 16 ⌝ }
@@ -31,6 +31,14 @@ pub fn size(s: u16) -> u32
     ensures { λ r. ⌜ r ≡ length (statesOf s) ⌝ }
 {
     u16::count_ones(s)
+}
+
+// How many states of s are below q.
+pub fn below(s: u16, q: u32) -> u32
+    requires { ⌜ q < 16 ⌝ }
+    ensures { λ r. ⌜ r ≡ length (members (hasState s) 0 q) ⌝ }
+{
+    u16::count_ones(s % (1 << q))
 }
 
 pub fn lowest(s: u16) -> u32

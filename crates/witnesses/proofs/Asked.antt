@@ -1,13 +1,14 @@
 -- The demands are not empty. Every accepted whole file, cut list and path, as bytes, gives demand 3's givens: the plant that the file holds, and
--- the parts that the cutter makes of it. Document 01's own W, P and cut are one, and their question is run. Assumes nothing.
+-- the parts that the cutter makes of it; and so does a file with links that end nowhere, where a search finds that none is walked. Document 01's own
+-- W, P and cut are one, and their question is run. Assumes nothing.
 use mathlib.Core.Path.{_≡_, refl}
 use mathlib.Core.Bool.{Bool, not, _&&_}
 use mathlib.Core.List.{List, [], _∷_, map, flatten, Memᴰ·of-map}
 use Prim.Native.Nat.{ℕ, _^_, _≤_}
 use native.Mathlib.Omega.{arith}
 use lib.Dec.{T, eqb, leb, ltb, ltb→lt, lit≤}
-use lib.ListN.{length, length-map}
-use Rattle.sets.specs.Sets.{Mem, Perm, any, setOf}
+use lib.ListN.{length, drop, length-map}
+use Rattle.sets.specs.Sets.{Mem, Perm, any, member, setOf}
 use Rattle.sets.specs.Reach.{closure}
 use Rattle.sets.proofs.Tests.{and-iff, le-iff, eq-iff}
 use Rattle.sets.proofs.Filter.{all-iff}
@@ -16,11 +17,16 @@ use Rattle.sets.proofs.Perm.{perm-refl, perm-same, perm-length}
 use Rattle.files.specs.Word.{words, bytesOf}
 use Rattle.files.specs.Refuse.{_then_, sizeCheck}
 use Rattle.files.specs.Outcome.{accepted}
-use Rattle.files.specs.Part.{wholeCheck}
+use Rattle.files.specs.Field.{pairNode}
+use Rattle.files.specs.Groups.{ourGroups}
+use Rattle.files.specs.Part.{nodes, roots, partCheck, wholeCheck}
 use Rattle.files.specs.Path.{pathCheck}
 use Rattle.files.proofs.Checks.{checks, then-iff}
+use Rattle.files.proofs.Parts.{whole-part}
 use Rattle.files.proofs.Words.{words-length}
 use Rattle.files.proofs.Bytes.{Bytes, words-below, bytes-words}
+use Rattle.expressions.specs.Labels.{exprOf}
+use Rattle.expressions.proofs.Paths.{path-small}
 use Rattle.walks.specs.Product.{stepIn, reached, answers}
 use Rattle.first_replies.specs.FirstReply.{reported, doorWords, firstReply}
 use Rattle.site_first.specs.First.{firstReplyCall}
@@ -28,37 +34,59 @@ use Rattle.site_second.specs.Second.{secondReply, secondReplyCall}
 use Rattle.site_second.proofs.SecondReplies.{second-length}
 use Rattle.hub_calls.specs.CallList.{called, callList, callListCall}
 use Rattle.hub_join.specs.Join.{joined, joinCall}
+use Rattle.old.proofs.OldSearch.{rootPairs}
 use Rattle.cutter.specs.Cut.{cut, cutCall}
 use Rattle.cutter.proofs.Parts.{cut-call}
 use Rattle.table.specs.Table.{whole, path, part0, part1, calls, second0, second1, final, b}
 use Rattle.files.specs.Cuts.{cutCheck}
-use Rattle.demands.specs.Plant.{Words, body}
+use Rattle.demands.specs.Plant.{OneRoot, Unwalked, Words, body}
 use Rattle.demands.specs.PlantOf.{plantOf, partsOf}
-use Rattle.demands.specs.Grouped.{Groups, ours, AcceptedGroups, asks}
+use Rattle.demands.specs.Grouped.{Groups, ours, AcceptedGroups, groupsOf, asks}
 use Rattle.demands.specs.Question.{Buffers, Room, going, ask}
-use Rattle.demands.specs.Demand.{Asked, Put, SmallBundles, Claim, Enough, question}
-use Rattle.demands.proofs.PlantOf.{plant-one-root, plant-closed}
-use Rattle.demands.proofs.Cutter.{true-cut, some-part, few-parts}
+use Rattle.demands.specs.Demand.{AcceptedPath, Asked, Put, SmallBundles, Claim, Enough, question}
+use Rattle.demands.proofs.PlantOf.{one-root-of, plant-one-root}
+use Rattle.demands.proofs.Cutter.{true-cut, some-part, few-parts, whole-unwalked, search-unwalked}
+use Rattle.demands.proofs.Grouping.{asks-checked, unwalked-asked}
 use Rattle.demands.proofs.Owed.{firstOf, secondOf, list, owed}
 use Rattle.demands.proofs.Demand.{demand-3}
 
--- the givens, by words
+-- the givens, by words: of a file with one root, and accepted groups and path by which no link that ends nowhere is walked
+abbrev pub asked-of : (f cuts p : List ℕ) → Words f → length f ≤ 4096 → partCheck f ≡ 0 → OneRoot (plantOf f)
+    → (site : ℕ) → cutCheck (body f) cuts site ≡ 0
+    → AcceptedPath p → (groups : Groups) → AcceptedGroups groups → Unwalked (groupsOf groups) (plantOf f) (partsOf f cuts) (exprOf (drop 1 p)) → Asked
+asked-of f cuts p word few c one site d path-ok groups groups-ok none = record {
+  plant = plantOf f;
+  one-root = one;
+  parts = partsOf f cuts;
+  some-part = some-part one (true-cut f cuts c site d word few);
+  few-parts = few-parts (true-cut f cuts c site d word few);
+  cut = true-cut f cuts c site d word few;
+  groups = groups;
+  groups-accepted = groups-ok;
+  path = p;
+  path-accepted = path-ok;
+  unwalked = none;
+}
+
+-- of a whole file, where no link ends nowhere
 abbrev pub asked : (f cuts p : List ℕ) → Words f → length f ≤ 4096 → wholeCheck f ≡ 0
     → (site : ℕ) → cutCheck (body f) cuts site ≡ 0
     → Words p → length p ≤ 64 → pathCheck p ≡ 0 → Asked
-asked f cuts p word few c site d path-word path-short path-read = record {
-  plant = plantOf f;
-  one-root = plant-one-root f c;
-  closed = plant-closed f c;
-  parts = partsOf f cuts;
-  some-part = some-part (plant-one-root f c) (true-cut f cuts c site d word few);
-  few-parts = few-parts (true-cut f cuts c site d word few);
-  cut = true-cut f cuts c site d word few;
-  groups = ours;
-  groups-accepted = tt;
-  path = p;
-  path-accepted = (path-word, path-short, path-read);
-}
+asked f cuts p word few c site d path-word path-short path-read =
+    asked-of f cuts p word few (whole-part f c) (plant-one-root f c) site d (path-word, path-short, path-read) ours tt
+    (whole-unwalked ourGroups f cuts c site d (exprOf (drop 1 p)))
+
+-- of any file, where the search of it as it stands, by the path that is asked, comes to no node that the file has not
+abbrev pub stays : (f p : List ℕ) → Bool
+stays f p = not (any (λ c. not (member (pairNode c) (nodes (body f)))) (reached (body f) (exprOf (drop 1 p)) (rootPairs f)))
+
+abbrev pub asked-open : (f cuts p : List ℕ) → Words f → length f ≤ 4096 → partCheck f ≡ 0 → (r : ℕ) → roots (body f) ≡ r ∷ []
+    → (site : ℕ) → cutCheck (body f) cuts site ≡ 0
+    → AcceptedPath p → (groups : Groups) → AcceptedGroups groups → T (stays f (asks groups p)) → Asked
+asked-open f cuts p word few c r only site d path-ok groups groups-ok test =
+    asked-of f cuts p word few c (one-root-of f r only) site d path-ok groups groups-ok
+    (unwalked-asked (plantOf f) (partsOf f cuts) groups p groups-ok .0
+    (search-unwalked f cuts c site d (exprOf (drop 1 (asks groups p))) (path-small (asks groups p) (asks-checked groups p groups-ok (path-ok .2))) test))
 
 -- accepted bytes are those of accepted words
 pub record Read (limit : ℕ) (check : List ℕ → ℕ) (s : List ℕ) : Type 0 where
@@ -120,12 +148,11 @@ asked-by-test f cuts p t =
     let ((((u, few), c), d), ((v, short), r)) = simp (and-iff, le-iff, eq-iff) at t in
     asked f cuts p (words-by-test f u) few c 0 d (words-by-test p v) short r
 
--- a question may be put with any accepted groups: the givens with these
-abbrev pub regrouped : (q : Asked) (groups : Groups) → AcceptedGroups groups → Asked
-regrouped q groups ok = record {
+-- a question may be put with any accepted groups by which no link that ends nowhere is walked: the givens with these
+abbrev pub regrouped : (q : Asked) (groups : Groups) → AcceptedGroups groups → Unwalked (groupsOf groups) (q .plant) (q .parts) (exprOf (drop 1 (q .path))) → Asked
+regrouped q groups ok none = record {
   plant = q .plant;
   one-root = q .one-root;
-  closed = q .closed;
   parts = q .parts;
   some-part = q .some-part;
   few-parts = q .few-parts;
@@ -134,6 +161,7 @@ regrouped q groups ok = record {
   groups-accepted = ok;
   path = q .path;
   path-accepted = q .path-accepted;
+  unwalked = none;
 }
 
 -- document 01's end-to-end files

@@ -5,11 +5,12 @@ use mathlib.Core.Bool.{true, false}
 use mathlib.Core.List.{List, [], _∷_, _++_, map, flatten}
 use Prim.Native.Nat.{ℕ}
 use lib.Dec.{lit≤}
-use lib.ListN.{replicate}
+use lib.ListN.{drop, replicate}
 use Rattle.sets.specs.Reach.{closure}
+use Rattle.files.specs.Word.{words}
 use Rattle.files.specs.Outcome.{Outcome, refused, accepted}
 use Rattle.files.specs.Groups.{loaded, ourGroups}
-use Rattle.expressions.specs.Labels.{holdsBy}
+use Rattle.expressions.specs.Labels.{holdsBy, exprOf}
 use Rattle.walks.specs.Product.{stepIn, reached, answers}
 use Rattle.first_replies.specs.FirstReply.{reported, doorWords, firstReply}
 use Rattle.site_first.specs.First.{firstReplyCall, firstReplyGroupedCall}
@@ -21,6 +22,7 @@ use Rattle.cutter.specs.Cut.{cut}
 use Rattle.demands.specs.Grouped.{Groups, own}
 use Rattle.demands.specs.Question.{ask}
 use Rattle.demands.specs.Demand.{Asked, Claim}
+use Rattle.demands.proofs.Cutter.{whole-unwalked}
 use Rattle.demands.proofs.Owed.{owed}
 use Rattle.table.specs.Table.{whole, path, part0, part1, first0, final, b}
 use Rattle.witnesses.proofs.Asked.{asked-by-test, regrouped, inTurn, two-claim}
@@ -121,7 +123,7 @@ group-orders = (refl, refl, refl, refl, refl, refl, refl, refl, refl, refl, refl
 
 -- demand 3 speaks of such a question
 abbrev pub pressAsked : Asked
-pressAsked = regrouped (asked-by-test whole apart byGroup tt) byPress refl
+pressAsked = regrouped (asked-by-test whole apart byGroup tt) byPress refl (whole-unwalked (words (b press)) whole apart refl 0 refl (exprOf (drop 1 byGroup)))
 
 pub press-claim : Claim pressAsked (inTurn pressAsked) (owed pressAsked (inTurn pressAsked))
 press-claim = two-claim pressAsked (inTurn pressAsked) (lit≤ tt)

@@ -8,3 +8,4 @@ pub mod StoppedNodes
 pub mod OutsideLabels
 pub mod WaitingOperands
 pub mod CustomerGroups
+pub mod IdleLinks

@@ -51,7 +51,7 @@ targets-short : length (firstReply targets fullRanges) ≡ 10
 unfolding targets fullRanges ors stars orOf flatten closure stepIn reached reported doorWords firstReply
 targets-short = refl
 
-row15-over : length (firstReply row15 fullRanges) ≡ 4355
+pub row15-over : length (firstReply row15 fullRanges) ≡ 4355
 unfolding row15
 row15-over = dear .0
 

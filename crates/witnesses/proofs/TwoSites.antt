@@ -7,18 +7,21 @@ use mathlib.Core.List.{List, [], _∷_, _++_, Memᴰ·append-left, Memᴰ·appen
 use Prim.Native.Nat.{ℕ, _≤_, _<_}
 use native.Mathlib.Omega.{arith}
 use lib.Dec.{T, leb, ltb, leb→le, ltb→lt}
-use lib.ListN.{length, getD}
+use lib.ListN.{length, drop, getD}
 use Rattle.sets.specs.Sets.{Mem, here, there, filter, any, member}
 use Rattle.sets.proofs.Sets.{filter-iff, member-iff}
 use Rattle.sets.proofs.Filter.{all-iff}
 use Rattle.files.specs.Field.{siteOf, targetOf}
+use Rattle.files.specs.Groups.{ourGroups}
 use Rattle.files.specs.Part.{isEdge, nodes, roots, doors, partCheck}
 use Rattle.files.proofs.Blocks.{edge-of, doors-nodes}
+use Rattle.expressions.specs.Labels.{exprOf}
 use Rattle.demands.specs.Plant.{Plant, OneRoot, Closed, HasEdge, AcceptedPart, TrueCut, body}
 use Rattle.demands.specs.PlantOf.{plantOfParts}
 use Rattle.demands.specs.Grouped.{ours}
 use Rattle.demands.specs.Demand.{AcceptedPath, Asked}
 use Rattle.demands.proofs.PlantOf.{parts-cut}
+use Rattle.demands.proofs.LeftOut.{closed-unwalked}
 use Rattle.demands.proofs.Cutter.{some-part, few-parts}
 use Rattle.witnesses.proofs.Asked.{allWords, words-by-test}
 
@@ -107,12 +110,11 @@ module _ (left right : List ℕ) {mid high root : ℕ} {rooted rooted′ offered
       (λ e. (right, there (here refl), doors-nodes (body right) y (left-to x a y e)))
       (λ e. (left, here refl, doors-nodes (body left) y (right-to x a y e))) f m e
 
-  -- the givens, for an accepted path
+  -- the givens, for an accepted path: the plant has no link that ends nowhere, and the parts' links are its own
   abbrev pub two : (path : List ℕ) → AcceptedPath path → Asked
   two path ok = record {
     plant = plant;
     one-root = two-root;
-    closed = two-closed;
     parts = sites;
     some-part = some-part two-root two-cut;
     few-parts = few-parts two-cut;
@@ -121,4 +123,5 @@ module _ (left right : List ℕ) {mid high root : ℕ} {rooted rooted′ offered
     groups-accepted = tt;
     path = path;
     path-accepted = ok;
+    unwalked = closed-unwalked ourGroups plant sites (exprOf (drop 1 path)) (λ f m x a y e. (f, m, e)) two-closed;
   }

@@ -135,7 +135,7 @@ unfolding flatten closure stepIn reached answers secondReply secondReplyCall onC
 lists = (refl, refl, refl, refl, refl, refl, refl, refl, refl)
 
 -- Bundles of first replies
-onFirsts : List ℕ → Outcome
+unfoldable pub onFirsts : List ℕ → Outcome
 onFirsts bundle = callListCall 16384 32768 (b bundle)
 
 first-bundles :

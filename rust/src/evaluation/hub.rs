@@ -54,42 +54,64 @@ fn check_once(nodes: impl Iterator<Item = u32>) -> Result<BTreeSet<u32>, Refusal
     Ok(once)
 }
 
-pub fn read_first_bundle(bytes: &[u8]) -> Result<Vec<FirstReply>, Refusal> {
-    let files = read_bundle(bytes, FIRST, read_first_reply)?;
-    check_headers(&files.iter().map(|file| file.header).collect::<Vec<_>>())?;
-    let doors = || files.iter().flat_map(|file| &file.doors);
-    match doors().filter(|door| door.root).count() {
-        0 => return refuse(7, "first bundle without root"),
-        1 => {}
-        _ => return refuse(7, "roots in two files"),
-    }
-    let nodes = check_once(doors().map(|door| door.node))?;
-    let mut reach = doors().flat_map(|door| &door.rows).flat_map(|row| &row.reach);
-    if reach.any(|pair| !nodes.contains(&pair.0)) {
-        return refuse(14, "reach word's node is no door");
-    }
-    Ok(files)
+/// First replies that have passed all checks up to 13, over all their files.
+#[derive(Clone)]
+pub struct FirstBundle {
+    n: u32,
+    pub root: Pair,
+    pub doors: BTreeSet<u32>,
+    /// By door and state.
+    pub rows: BTreeMap<Pair, Vec<Pair>>,
 }
 
-/// The least set with the root in state 0 that is closed under the rows.
-pub fn call_list_words(files: &[FirstReply]) -> Vec<u32> {
-    let mut rows: BTreeMap<Pair, &[Pair]> = BTreeMap::new();
-    let mut called = BTreeSet::new();
-    for door in files.iter().flat_map(|file| &file.doors) {
-        rows.extend(door.rows.iter().map(|row| ((door.node, row.state), &row.reach[..])));
-        called.extend(door.root.then_some((door.node, 0)));
+pub fn read_first_bundle(bytes: &[u8]) -> Result<FirstBundle, Refusal> {
+    let files = read_bundle(bytes, FIRST, read_first_reply)?;
+    check_headers(&files.iter().map(|file| file.header).collect::<Vec<_>>())?;
+    let n = files[0].header.n;
+    let doors: Vec<Door> = files.into_iter().flat_map(|file| file.doors).collect();
+    let roots: Vec<u32> = doors.iter().filter(|door| door.root).map(|door| door.node).collect();
+    let root = match roots[..] {
+        [] => return refuse(7, "first bundle without root"),
+        [root] => (root, 0),
+        _ => return refuse(7, "roots in two files"),
+    };
+    let nodes = check_once(doors.iter().map(|door| door.node))?;
+    let by_state = |door: Door| door.rows.into_iter().map(move |row| ((door.node, row.state), row.reach));
+    Ok(FirstBundle { n, root, doors: nodes, rows: doors.into_iter().flat_map(by_state).collect() })
+}
+
+impl FirstBundle {
+    pub fn is_stray(&self, pair: Pair) -> bool {
+        !self.doors.contains(&pair.0)
     }
-    let mut waiting: Vec<Pair> = called.iter().copied().collect();
-    while let Some(pair) = waiting.pop() {
-        for next in rows.get(&pair).copied().unwrap_or(&[]) {
-            if called.insert(*next) {
-                waiting.push(*next);
+
+    /// The least set with the root in state 0 that is closed under the rows. A pair of a node that is no door is in it like any other, and has
+    /// no row.
+    pub fn called(&self) -> BTreeSet<Pair> {
+        let mut called = BTreeSet::from([self.root]);
+        let mut waiting = vec![self.root];
+        while let Some(pair) = waiting.pop() {
+            for next in self.rows.get(&pair).into_iter().flatten() {
+                if called.insert(*next) {
+                    waiting.push(*next);
+                }
             }
         }
+        called
     }
-    let words: Vec<u32> =
-        called.into_iter().map(|(node, state)| CALL << 28 | node << 4 | state as u32).collect();
-    file(CALLS, 0, files[0].header.n, &words)
+
+    /// Number 14, once the whole set is there.
+    pub fn check_called(&self, called: &BTreeSet<Pair>) -> Result<(), Refusal> {
+        match called.iter().any(|pair| self.is_stray(*pair)) {
+            true => refuse(14, "called pair's node is no door"),
+            false => Ok(()),
+        }
+    }
+
+    pub fn call_list_words(&self, called: &BTreeSet<Pair>) -> Vec<u32> {
+        let words: Vec<u32> = called.iter().map(|pair| pair_word(CALL, *pair)).collect();
+        file(CALLS, 0, self.n, &words)
+    }
 }
 
 pub fn read_second_bundle(bytes: &[u8]) -> Result<Vec<SecondReply>, Refusal> {

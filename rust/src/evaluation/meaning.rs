@@ -1,4 +1,4 @@
-//! The textbook meaning of an expression, and the nodes that walks spelling its words lead to.
+//! The textbook meaning of an expression, the nodes that walks spelling its words lead to, and the links that walks can step on.
 
 use super::path::{Expression, Path};
 use super::relation::Relation;
@@ -35,6 +35,22 @@ fn links_of(path: &Path, links: &Links) -> Vec<Relation> {
     (1..=path.n()).map(held).collect()
 }
 
+/// A link's label and its source's place.
+pub type Further = (u32, usize);
+
+/// Which of some further links a walk from the root can step on. Each leads to a node of its own, where every position reads on, whatever
+/// labels it holds: so a walk that has stepped on the link ends there just if its positions begin a word of the expression.
+pub fn stepped_on_by_relation(path: &Path, links: &Links, root: usize, further: &[Further]) -> Vec<bool> {
+    let mut links = links.to_vec();
+    let own = links.len()..links.len() + further.len();
+    own.clone().zip(further).for_each(|(own, (label, source))| links[*source].push((*label, own)));
+    links.extend(further.iter().map(|_| vec![]));
+    let mut held = links_of(path, &links);
+    held.iter_mut().for_each(|held| own.clone().for_each(|own| held.add(own, own)));
+    let meaning = relation(&path.expression, links.len(), &held);
+    own.map(|own| meaning.has(root, own)).collect()
+}
+
 pub fn listed_by_relation(path: &Path, links: &Links, root: usize) -> BTreeSet<usize> {
     let meaning = relation(&path.expression, links.len(), &links_of(path, links));
     (0..links.len()).filter(|node| meaning.has(root, *node)).collect()
@@ -48,27 +64,44 @@ struct Flow<'a> {
     seen: HashSet<(*const Expression, usize, usize)>,
     rests: Vec<(Option<&'a Expression>, usize)>,
     stack: Vec<(&'a Expression, usize, usize)>,
+    /// Positions that may be read next, by node.
+    next: BTreeSet<(usize, usize)>,
     done: BTreeSet<usize>,
 }
 
 /// The same list for graphs too large for a relation: every node at which each subexpression may begin, followed until nothing is new.
 pub fn listed_by_flow(path: &Path, links: &Links, root: usize) -> BTreeSet<usize> {
-    let mut flow = Flow {
-        path,
-        links,
-        seen: HashSet::new(),
-        rests: vec![(None, 0)],
-        stack: vec![],
-        done: BTreeSet::new(),
+    Flow::over(path, links, root).done
+}
+
+/// The same links: a position that holds the label may be read next at the source.
+pub fn stepped_on_by_flow(path: &Path, links: &Links, root: usize, further: &[Further]) -> Vec<bool> {
+    let next = Flow::over(path, links, root).next;
+    let steps = |(label, source): &Further| {
+        let mut positions = next.range((*source, 0)..(source + 1, 0)).map(|(_, position)| *position);
+        positions.any(|position| path.holds(position, *label))
     };
-    flow.begin(&path.expression, 0, root);
-    while let Some((expression, rest, node)) = flow.stack.pop() {
-        flow.enter(expression, rest, node);
-    }
-    flow.done
+    further.iter().map(steps).collect()
 }
 
 impl<'a> Flow<'a> {
+    fn over(path: &'a Path, links: &'a Links, root: usize) -> Flow<'a> {
+        let mut flow = Flow {
+            path,
+            links,
+            seen: HashSet::new(),
+            rests: vec![(None, 0)],
+            stack: vec![],
+            next: BTreeSet::new(),
+            done: BTreeSet::new(),
+        };
+        flow.begin(&path.expression, 0, root);
+        while let Some((expression, rest, node)) = flow.stack.pop() {
+            flow.enter(expression, rest, node);
+        }
+        flow
+    }
+
     fn begin(&mut self, expression: &'a Expression, rest: usize, node: usize) {
         if self.seen.insert((expression as *const Expression, rest, node)) {
             self.stack.push((expression, rest, node));
@@ -99,6 +132,7 @@ impl<'a> Flow<'a> {
         match expression {
             Expression::Empty => self.end(rest, node),
             Expression::Label(position) => {
+                self.next.insert((node, *position));
                 let (path, links) = (self.path, self.links);
                 for (_, target) in links[node].iter().filter(|link| path.holds(*position, link.0)) {
                     self.end(rest, *target);
@@ -121,9 +155,21 @@ impl<'a> Flow<'a> {
     }
 }
 
+/// So many nodes are few enough for a relation.
+const FEW: usize = 200;
+
+/// Which of some further links a walk from the root can step on.
+pub fn stepped_on(path: &Path, links: &Links, root: usize, further: &[Further]) -> Vec<bool> {
+    if links.len() + further.len() <= FEW {
+        stepped_on_by_relation(path, links, root, further)
+    } else {
+        stepped_on_by_flow(path, links, root, further)
+    }
+}
+
 /// Demand 2's list, as places in `links`.
 pub fn listed(path: &Path, links: &Links, root: usize) -> BTreeSet<usize> {
-    if links.len() <= 200 {
+    if links.len() <= FEW {
         listed_by_relation(path, links, root)
     } else {
         listed_by_flow(path, links, root)

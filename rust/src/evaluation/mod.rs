@@ -1,6 +1,7 @@
-//! Document 01 evaluated, with labels outside a range (request 1), groups that a call is handed (request 3), stopped nodes (request 7) and
-//! eight operands waiting at most (request 9): every call as a function from bytes and buffer lengths to a refusal or the result's words. It
-//! is written from the documents alone, for plainness and not for speed, and shares no method with the library where they leave a choice.
+//! Document 01 evaluated, with labels outside a range (request 1), groups that a call is handed (request 3), links that nobody walks (request
+//! 5), stopped nodes (request 7) and eight operands waiting at most (request 9): every call as a function from bytes and buffer lengths to a
+//! refusal or the result's words. It is written from the documents alone, for plainness and not for speed, and shares no method with the
+//! library where they leave a choice.
 
 pub mod groups;
 pub mod hub;
@@ -43,7 +44,7 @@ fn check_room(room: Room, limit: usize) -> Result<(), Refusal> {
 }
 
 /// Number 15.
-fn check_result(words: Vec<u32>, limit: usize) -> Outcome {
+pub fn check_result(words: Vec<u32>, limit: usize) -> Outcome {
     if words.len() > limit {
         return refuse(15, "over its limit").map_err(|refusal| refusal.of("result"));
     }
@@ -83,8 +84,14 @@ pub fn first_reply(part: &[u8], groups: Option<&[u8]>, path: &[u8], room: Room) 
 
 pub fn call_list(bundle: &[u8], room: Room) -> Outcome {
     check_room(room, FILE_LIMIT)?;
-    let files = input("first bundle", read_first_bundle(bundle))?;
-    check_result(call_list_words(&files), FILE_LIMIT)
+    call_list_of(&input("first bundle", read_first_bundle(bundle))?)
+}
+
+/// 14, and then the list and its 15.
+pub fn call_list_of(bundle: &FirstBundle) -> Outcome {
+    let called = bundle.called();
+    input("first bundle", bundle.check_called(&called))?;
+    check_result(bundle.call_list_words(&called), FILE_LIMIT)
 }
 
 pub fn second_reply(part: &[u8], groups: Option<&[u8]>, path: &[u8], calls: &[u8], room: Room) -> Outcome {

@@ -1,10 +1,13 @@
-//! A plant, file or no file, and demand 2's list for it.
+//! A plant, file or no file, demand 2's list for it, and the givens of demand 3: a true cut, and links that end nowhere and are not walked.
 
 use super::hub::final_list;
-use super::meaning::listed;
+use super::meaning::{listed, stepped_on};
 use super::part::Part;
 use super::path::Path;
 use std::collections::{BTreeMap, BTreeSet};
+
+/// A node, a label, and a target, which may be no node of the plant: then the link ends nowhere.
+pub type Link = (u32, u32, u32);
 
 #[derive(Clone, Debug)]
 pub struct Plant {
@@ -15,6 +18,24 @@ pub struct Plant {
     pub stopped: BTreeSet<u32>,
 }
 
+/// The running nodes, and by their places the links between them.
+struct Running {
+    numbers: Vec<u32>,
+    links: Vec<Vec<(u32, usize)>>,
+}
+
+impl Running {
+    fn place(&self, node: u32) -> Option<usize> {
+        self.numbers.binary_search(&node).ok()
+    }
+}
+
+/// The links of the parts as they stand.
+pub fn links_of(parts: &[Part]) -> BTreeSet<Link> {
+    let nodes = parts.iter().flat_map(|part| &part.nodes);
+    nodes.flat_map(|node| node.edges.iter().map(|edge| (node.number, edge.0, edge.1))).collect()
+}
+
 impl Plant {
     pub fn of(whole: &Part) -> Plant {
         let root = whole.nodes.iter().find(|node| node.root).expect("a whole has a root").number;
@@ -23,23 +44,68 @@ impl Plant {
         Plant { root, nodes: nodes.collect(), stopped: stopped.collect() }
     }
 
-    fn running(&self, node: u32) -> bool {
-        !self.stopped.contains(&node)
+    pub fn links(&self) -> BTreeSet<Link> {
+        let nodes = self.nodes.iter();
+        nodes.flat_map(|(node, out)| out.iter().map(move |link| (*node, link.0, link.1))).collect()
     }
 
-    /// Demand 2's list. Every node of a walk is running, so the walks are those over the running nodes and the links between them.
+    pub fn ends_nowhere(&self, link: &Link) -> bool {
+        !self.nodes.contains_key(&link.2)
+    }
+
+    /// The plant without the links that end nowhere.
+    pub fn left_out(&self) -> Plant {
+        let mut plant = self.clone();
+        plant.nodes.values_mut().for_each(|out| out.retain(|link| self.nodes.contains_key(&link.1)));
+        plant
+    }
+
+    /// Every node of a walk is a running one, so its links are those between running nodes.
+    fn running(&self) -> Running {
+        let numbers = self.nodes.keys().copied().filter(|node| !self.stopped.contains(node)).collect();
+        let mut running = Running { numbers, links: vec![] };
+        let place = |link: &(u32, u32)| running.place(link.1).map(|place| (link.0, place));
+        let links = running.numbers.iter().map(|node| self.nodes[node].iter().filter_map(place).collect());
+        running.links = links.collect();
+        running
+    }
+
+    /// Demand 2's list.
     pub fn search(&self, path: &Path) -> Vec<u32> {
-        if !self.running(self.root) {
-            return final_list(&BTreeSet::new());
-        }
-        let numbers: Vec<u32> = self.nodes.keys().copied().filter(|node| self.running(*node)).collect();
-        let place = |node: u32| numbers.binary_search(&node).expect("every target is a node");
-        let links_of = |node: &u32| {
-            let between = self.nodes[node].iter().filter(|(_, target)| self.running(*target));
-            between.map(|(label, target)| (*label, place(*target))).collect()
+        let running = self.running();
+        let listed = running.place(self.root).map(|root| listed(path, &running.links, root));
+        final_list(&listed.into_iter().flatten().map(|at| running.numbers[at]).collect())
+    }
+
+    /// Those of some links that are walked: some walk from the root comes to their node in a state that steps on their label, whether or not
+    /// anything can be accepted from there.
+    pub fn walked(&self, path: &Path, links: &BTreeSet<Link>) -> BTreeSet<Link> {
+        let running = self.running();
+        let root = match running.place(self.root) {
+            Some(root) => root,
+            None => return BTreeSet::new(),
         };
-        let links: Vec<Vec<(u32, usize)>> = numbers.iter().map(links_of).collect();
-        let places = listed(path, &links, place(self.root));
-        final_list(&places.into_iter().map(|at| numbers[at]).collect())
+        let placed = links.iter().filter_map(|link| running.place(link.0).map(|place| (link, place)));
+        let (links, further): (Vec<&Link>, Vec<_>) =
+            placed.map(|(link, place)| (link, (link.1, place))).unzip();
+        let stepped = stepped_on(path, &running.links, root, &further);
+        links.into_iter().zip(stepped).filter(|(_, stepped)| *stepped).map(|(link, _)| *link).collect()
+    }
+
+    /// A true cut: links that end nowhere are left out, in the plant and in the parts.
+    pub fn is_cut_into(&self, parts: &[Part]) -> bool {
+        let sites: BTreeSet<u32> = parts.iter().map(|part| part.site).collect();
+        let all = || parts.iter().flat_map(|part| &part.nodes);
+        let numbers: BTreeSet<u32> = all().map(|node| node.number).collect();
+        let mut links = links_of(parts);
+        links.retain(|link| !self.ends_nowhere(link));
+        let crossed: BTreeSet<u32> = parts.iter().flat_map(Part::outside_targets).collect();
+        sites.len() == parts.len()
+            && all().count() == numbers.len()
+            && numbers.iter().eq(self.nodes.keys())
+            && links == self.left_out().links()
+            && all().all(|node| node.root == (node.number == self.root))
+            && all().all(|node| node.stopped == self.stopped.contains(&node.number))
+            && all().all(|node| node.door || !crossed.contains(&node.number))
     }
 }

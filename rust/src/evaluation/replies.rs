@@ -25,7 +25,7 @@ pub fn walks(part: &Part, path: &Path, states: &States, from: &[Pair]) -> BTreeS
     reached
 }
 
-fn pair_word(kind: u32, (node, state): Pair) -> u32 {
+pub fn pair_word(kind: u32, (node, state): Pair) -> u32 {
     kind << 28 | node << 4 | state as u32
 }
 

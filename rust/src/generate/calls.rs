@@ -1,13 +1,13 @@
 //! Random calls: inputs that are accepted, and damaged ones.
 
-use super::{bundle, damage, groups, path, plant};
+use super::{bundle, damage, groups, path, plant, question};
 use crate::beside::Call;
-use crate::evaluation::groups::{Groups, OURS};
+use crate::evaluation::groups::Groups;
 use crate::evaluation::part::{Node, Part};
 use crate::evaluation::plant::Plant;
 use crate::evaluation::replies::first_reply_words;
 use crate::evaluation::words::*;
-use crate::evaluation::{path::read_path, Room};
+use crate::evaluation::Room;
 use crate::random::Random;
 
 /// Which inputs of a call are damaged, lowest bit first: none, mostly one, or any.
@@ -65,7 +65,7 @@ fn cut(random: &mut Random) -> Call {
 }
 
 /// A part, a path, and groups if they are asked for.
-type Asked = (Part, Option<Groups>, Vec<u32>);
+pub type Asked = (Part, Option<Groups>, Vec<u32>);
 
 /// A part of a random true cut of a plant, and a path and groups over the same labels.
 fn asked(random: &mut Random, plant: fn(&mut Random, &[u32]) -> Plant, grouped: bool) -> Asked {
@@ -81,7 +81,7 @@ fn asked(random: &mut Random, plant: fn(&mut Random, &[u32]) -> Plant, grouped: 
 }
 
 /// Doors with links of label 0 to the same targets, and a star of an or of words that hold 0: a reply near its limit, if no door is stopped.
-fn dearly_asked(random: &mut Random, grouped: bool) -> Asked {
+pub fn dearly_asked(random: &mut Random, grouped: bool) -> Asked {
     let (doors, n) = (random.between(1, 3), random.between(1, 15));
     let fits = (4095 / doors - 1) / (n + 1) - 1;
     let targets = (fits / n + random.below(2)).clamp(1, 4000 / doors) as u32;
@@ -126,21 +126,18 @@ fn second_reply(random: &mut Random, grouped: bool) -> Call {
     Call::SecondReply { part, groups, path, calls }
 }
 
-/// The first replies that the sites of a random cut owe.
+/// The first replies that the sites of a random question owe.
 fn honest_replies(random: &mut Random) -> Vec<Vec<u32>> {
-    let alphabet = path::alphabet(random);
-    let plant = plant::some_plant(random, &alphabet);
-    let sites = random.between(1, 5);
-    let parts = plant::true_cut(random, &plant, sites, 0);
-    let path = bytes_of(&path::some_path(random, &alphabet));
-    let path = read_path(&path, &OURS).expect("paths are made right");
-    parts.iter().map(|part| first_reply_words(part, &path)).collect()
+    let question = question::small(random);
+    let path = question.read_path();
+    question.parts.iter().map(|part| first_reply_words(part, &path)).collect()
 }
 
 fn call_list(random: &mut Random) -> Call {
-    let files = match random.below(50) {
-        0 => bundle::dear_replies(random),
-        1..=15 => honest_replies(random),
+    let files = match random.below(100) {
+        0..=3 => bundle::dear_replies(random),
+        4..=8 => bundle::many_doors(random),
+        9..=30 => honest_replies(random),
         _ => bundle::first_replies(random),
     };
     let bundle = match random.chance(25) || files.concat().len() > 4000 {

@@ -251,6 +251,18 @@ fn row_ends(files: &[Vec<u32>]) -> Vec<(usize, usize)> {
     files.iter().enumerate().flat_map(ends).collect()
 }
 
+/// A door less, with its rows: what calls it calls a node that is no door.
+fn take_door(random: &mut Random, words: &mut Vec<u32>) {
+    let doors: Vec<usize> = (1..words.len()).filter(|at| kind(words[*at]) == DOOR).collect();
+    if doors.is_empty() {
+        return;
+    }
+    let at = random.pick(&doors);
+    let end = (at + 1..words.len()).find(|at| kind(words[*at]) == DOOR).unwrap_or(words.len());
+    words.drain(at..end);
+    mend(words);
+}
+
 /// Any of the faults that show over all files only, each file right by itself: which check comes first?
 fn damage_over_all(random: &mut Random, files: &mut Vec<Vec<u32>>) {
     let (at, other) = (random.below(files.len()), random.below(files.len()));
@@ -263,7 +275,14 @@ fn damage_over_all(random: &mut Random, files: &mut Vec<Vec<u32>>) {
     let ends = row_ends(files);
     if random.chance(40) && !ends.is_empty() {
         let (at, place) = random.pick(&ends);
-        files[at][place] |= 0xf_fff0;
+        let last = bits(files[at][place], 19, 4) == 65_535;
+        files[at][place] = match last || random.chance(50) {
+            true => files[at][place] | 0xf_fff0,
+            false => files[at][place] + 0x10,
+        };
+    }
+    if random.chance(20) {
+        take_door(random, &mut files[at]);
     }
     if random.chance(20) {
         files[at][0] = files[at][0] & !(15 << 24) | files[other][0] & 15 << 24;

@@ -1,7 +1,7 @@
-//! Random plants and true cuts of them.
+//! Random plants and true cuts of them, and links that end nowhere.
 
 use crate::evaluation::part::{Node, Part};
-use crate::evaluation::plant::Plant;
+use crate::evaluation::plant::{Link, Plant};
 use crate::random::Random;
 use std::collections::{BTreeMap, BTreeSet};
 
@@ -46,6 +46,39 @@ pub fn stop(random: &mut Random, plant: Plant, percent: usize) -> Plant {
     let stops = |node: &u32| if *node == plant.root { root } else { random.chance(percent) };
     let stopped = plant.nodes.keys().copied().filter(stops).collect();
     Plant { stopped, ..plant }
+}
+
+/// The plant without some of its nodes, and the links that led to them.
+pub fn remove(random: &mut Random, mut plant: Plant, percent: usize) -> (Plant, BTreeSet<Link>) {
+    let root = plant.root;
+    plant.nodes.retain(|node, _| *node == root || !random.chance(percent));
+    plant.stopped.retain(|node| plant.nodes.contains_key(node));
+    let strays = plant.links().into_iter().filter(|link| plant.ends_nowhere(link)).collect();
+    (plant.left_out(), strays)
+}
+
+/// A number that is none of these, ascending: next to one of them, an end, or any.
+pub fn number_beside(random: &mut Random, numbers: &[u32]) -> u32 {
+    loop {
+        let near = random.pick(numbers) as usize;
+        let any = random.below(65_536);
+        let beside = random.pick(&[near + 1, near + 65_535, near ^ 15, 0, 65_535, any]) % 65_536;
+        if numbers.binary_search(&(beside as u32)).is_err() {
+            return beside as u32;
+        }
+    }
+}
+
+/// Links that end nowhere: of the root or any nodes, stopped ones too, with labels that the plant has or any.
+pub fn strays(random: &mut Random, plant: &Plant, count: usize) -> BTreeSet<Link> {
+    let numbers: Vec<u32> = plant.nodes.keys().copied().collect();
+    let labels: Vec<u32> = plant.links().into_iter().map(|link| link.1).chain([0, 5, 4095]).collect();
+    let link = |_| {
+        let node = if random.chance(15) { plant.root } else { random.pick(&numbers) };
+        let label = if random.chance(90) { random.pick(&labels) } else { random.below(4096) as u32 };
+        (node, label, number_beside(random, &numbers))
+    };
+    (0..count).map(link).collect()
 }
 
 pub fn some_plant(random: &mut Random, alphabet: &[u32]) -> Plant {

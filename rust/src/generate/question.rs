@@ -1,14 +1,16 @@
-//! Random whole questions: a plant, a true cut of it, a path, with groups or without.
+//! Random whole questions: a plant, a true cut of it, a path, with groups or without; in many of them links that end nowhere.
 
 use super::path::{self, any_label, or_of, range, OR, THEN};
-use super::{groups, plant};
-use crate::evaluation::groups::Groups;
-use crate::evaluation::part::Part;
-use crate::evaluation::plant::Plant;
-use crate::evaluation::words::{file, PATH};
+use super::{calls, groups, plant};
+use crate::evaluation::groups::{Groups, OURS};
+use crate::evaluation::part::{Node, Part};
+use crate::evaluation::path::{read_path, Path};
+use crate::evaluation::plant::{Link, Plant};
+use crate::evaluation::words::{bytes_of, file, PATH};
 use crate::random::Random;
 use std::collections::{BTreeMap, BTreeSet};
 
+/// Plant and parts may have different links that end nowhere.
 #[derive(Clone, Debug)]
 pub struct Question {
     pub plant: Plant,
@@ -16,6 +18,55 @@ pub struct Question {
     /// Those that all its calls are handed, or none, for the calls without.
     pub groups: Option<Groups>,
     pub path: Vec<u32>,
+}
+
+impl Question {
+    /// The path as it is read by these groups.
+    pub fn path_by(&self, groups: &Groups) -> Path {
+        read_path(&bytes_of(&self.path), groups).expect("paths are made right")
+    }
+
+    pub fn read_path(&self) -> Path {
+        self.path_by(&self.groups.unwrap_or(OURS))
+    }
+
+    fn add_to_part(&mut self, (source, label, target): Link) {
+        let mut nodes = self.parts.iter_mut().flat_map(|part| &mut part.nodes);
+        let edges = &mut nodes.find(|node| node.number == source).expect("a part has it").edges;
+        edges.extend((!edges.contains(&(label, target))).then_some((label, target)));
+        edges.sort();
+    }
+}
+
+/// The question with these links that end nowhere, in plant and part or in one of the two; `idle` of a hundred times without those that are
+/// walked.
+fn with_strays(
+    random: &mut Random,
+    mut question: Question,
+    strays: &BTreeSet<Link>,
+    idle: usize,
+) -> Question {
+    let left = match random.chance(idle) {
+        true => question.plant.walked(&question.read_path(), strays),
+        false => BTreeSet::new(),
+    };
+    for link in strays.difference(&left) {
+        let (in_plant, in_part) = random.pick(&[(true, true), (true, true), (true, false), (false, true)]);
+        if in_plant {
+            question.plant.nodes.entry(link.0).or_default().insert((link.1, link.2));
+        }
+        if in_part {
+            question.add_to_part(*link);
+        }
+    }
+    question
+}
+
+/// The question with a few links that end nowhere, or as it is.
+fn with_some_strays(random: &mut Random, question: Question) -> Question {
+    let count = random.pick(&[0, 1, 2, 6]);
+    let strays = plant::strays(random, &question.plant, count);
+    with_strays(random, question, &strays, 70)
 }
 
 fn cut(random: &mut Random, plant: Plant, groups: Option<Groups>, path: Vec<u32>) -> Question {
@@ -26,12 +77,16 @@ fn cut(random: &mut Random, plant: Plant, groups: Option<Groups>, path: Vec<u32>
     Question { plant, parts, groups, path }
 }
 
-fn small(random: &mut Random) -> Question {
+pub fn small(random: &mut Random) -> Question {
     let alphabet = path::alphabet(random);
     let plant = plant::some_plant(random, &alphabet);
+    let removed = random.pick(&[0, 0, 0, 10]);
+    let (plant, strays) = plant::remove(random, plant, removed);
     let (path, grouped) = (path::some_path(random, &alphabet), random.chance(50));
     let (groups, path) = groups::grouped(random, &alphabet, path, grouped);
-    cut(random, plant, groups, path)
+    let question = cut(random, plant, groups, path);
+    let question = with_strays(random, question, &strays, 70);
+    with_some_strays(random, question)
 }
 
 /// First replies that are long, many beyond their limit or beyond a bundle's.
@@ -45,7 +100,7 @@ fn dear(random: &mut Random) -> Question {
     let (path, grouped) = (or_of(any_label(random, &alphabet), n, star), random.chance(25));
     let (groups, path) = groups::grouped(random, &alphabet, path, grouped);
     let parts = plant::true_cut(random, &plant, sites, 0);
-    Question { plant, parts, groups, path }
+    with_some_strays(random, Question { plant, parts, groups, path })
 }
 
 /// A plant too large for one file, cut where few links cross; some list more nodes than a bundle holds. A single stopped node ends most of
@@ -73,14 +128,15 @@ fn large(random: &mut Random) -> Question {
     let (groups, path) = groups::grouped(random, &alphabet, path, grouped);
     let sites = random.between(6, 16);
     let parts = plant::true_cut(random, &plant, sites, 0);
-    Question { plant, parts, groups, path }
+    with_some_strays(random, Question { plant, parts, groups, path })
 }
 
 /// A call list with a length near its limit: the root links to `wide` nodes of a second site, in thirteen states each, and one of these to
-/// `more` nodes of a third in one state. Nodes without links may be stopped: they are called all the same.
+/// `more` nodes of a third in one state. Nodes without links may be stopped: they are called all the same. Links that end nowhere are the
+/// root's, walked and reported or not, and others'.
 fn many_calls(random: &mut Random) -> Question {
     let wide = random.between(250, 280);
-    let more = (4095 - 13 * wide) + random.below(3) - 2;
+    let more = (4095 - 13 * wide) + random.below(4) - 2;
     let mut nodes: BTreeMap<u32, BTreeSet<(u32, u32)>> = BTreeMap::new();
     let (second, third) = (1000, 2000);
     nodes.insert(5, (0..wide as u32).map(|at| (7, second + at)).collect());
@@ -99,15 +155,37 @@ fn many_calls(random: &mut Random) -> Question {
     let mut words = vec![sevens];
     (1..12).for_each(|_| words.extend([sevens, OR]));
     words.extend([sevens, range(8, 8), THEN, OR]);
-    Question { plant, parts, groups: None, path: file(PATH, 0, 14, &words) }
+    let mut strays = BTreeSet::from([(5, 7, 3000), (5, 8, 0), (second + 3, 7, 999), (third, 7, 65_535)]);
+    strays.retain(|_| random.chance(50));
+    let question = Question { plant, parts, groups: None, path: file(PATH, 0, 14, &words) };
+    with_strays(random, question, &strays, 40)
+}
+
+/// A first reply near its limit, of a part whose targets are nodes of another or removed: with the root in it these links are walked, else
+/// nobody calls its doors. So it can be over its limit by links that nobody walks.
+fn dear_strays(random: &mut Random) -> Question {
+    let (mut dear, groups, path) = calls::dearly_asked(random, false);
+    let own = random.chance(30) && dear.nodes.len() > 1;
+    dear.nodes.iter_mut().for_each(|node| node.root &= own);
+    let bare = |number: u32, root: bool| Node { number, door: true, root, stopped: false, edges: vec![] };
+    let percent = random.pick(&[10, 50, 100]);
+    let targets = dear.outside_targets().into_iter().filter(|_| !random.chance(percent));
+    let others: Vec<Node> = targets.map(|number| bare(number, false)).chain([bare(65_000, !own)]).collect();
+    let parts = vec![dear, Part { site: 2, nodes: others }];
+    let nodes = || parts.iter().flat_map(|part| &part.nodes);
+    let root = nodes().find(|node| node.root).expect("one of them is").number;
+    let stopped = nodes().filter(|node| node.stopped).map(|node| node.number).collect();
+    let nodes = nodes().map(|node| (node.number, node.edges.iter().copied().collect())).collect();
+    Question { plant: Plant { root, nodes, stopped }, parts, groups, path }
 }
 
 /// Any question whose parts are parts: each within its limit.
 pub fn question(random: &mut Random) -> Question {
     let question = match random.below(200) {
         0 | 1 => large(random),
-        2 | 3 => many_calls(random),
-        4..=10 => dear(random),
+        2..=4 => many_calls(random),
+        5..=11 => dear(random),
+        12 | 13 => dear_strays(random),
         _ => small(random),
     };
     match question.parts.iter().all(|part| part.words().len() <= 4096) {

@@ -16,7 +16,7 @@ seed-requires c κs =
     let root = c .before in
     let prepared = root .before .before .before in
     let start = prepared .before .before .before .before in
-    (prepared .prepare .ensures .begun, root-node _ _ (root-is (words (start .args .whole .now)) (start .pre .0) (root .root-position .result) (root .root-position .ensures)), omega arith)
+    (prepared .prepare .ensures .begun, root-node _ _ (root-is (words (start .args .whole .now)) (start .pre .0) _ (root .find-kind .ensures)), omega arith)
 
 run-requires : tie.Need-run-requires
 run-requires c κs =
@@ -33,7 +33,7 @@ returns c =
     let prepared = root .before .before .before in
     let start = prepared .before .before .before .before in
     let whole = words (start .args .whole .now) in
-    root-answers whole (start .pre .0) _ (root-is whole (start .pre .0) (root .root-position .result) (root .root-position .ensures)) (start .args .a) (omega (arith, start .good)) _ _ _ _ _
+    root-answers whole (start .pre .0) _ (root-is whole (start .pre .0) _ (root .find-kind .ensures)) (start .args .a) (omega (arith, start .good)) _ _ _ _ _
     (prepared .prepare .ensures) (seeded .seed .ensures) (ran .run .ensures)
 
 pub search-spec : {M : Type 1} → statement M

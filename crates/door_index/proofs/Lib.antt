@@ -1,0 +1,3 @@
+pub mod Doors
+pub mod Ranking
+pub mod Indexing

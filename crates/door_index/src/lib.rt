@@ -1,0 +1,2 @@
+// The doors of a bundle in the order of their nodes.
+pub mod index;

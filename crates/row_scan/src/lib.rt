@@ -1,0 +1,2 @@
+// The rows behind a door of a bundle, word by word.
+pub mod rows;
