@@ -99,6 +99,10 @@ pub fn first_reply() -> Vec<Shape> {
         shape("two random links, fifteen turns, all doors, eight operands waiting", |n| {
             search(parts::random(n, 2, Doors::All), paths::eight_waiting(paths::turns()))
         }),
+        shape("one link outside a door, all rows, over the limit (15)", |n| Ask {
+            number: 15,
+            ..search(parts::doorways(n), paths::full_ranges())
+        }),
         first_reply_of_groups(),
     ]
 }

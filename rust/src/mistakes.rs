@@ -4,7 +4,7 @@
 use crate::evaluation::groups::{Groups, OURS};
 use crate::evaluation::hub::FirstBundle;
 use crate::evaluation::path::{MayStand, MOST_WAITING};
-use crate::evaluation::replies::Pair;
+use crate::evaluation::replies::{running_lengths, Pair};
 use crate::evaluation::words::*;
 use crate::evaluation::{call_list_of, check_result, Outcome};
 use crate::generate::path::{outside, range};
@@ -31,6 +31,8 @@ pub type Mended = fn(&[u8]) -> Vec<u8>;
 pub type PassedOver = fn(&Outcome, &[u8]) -> bool;
 /// What a hub makes of first replies that have passed all checks up to 13.
 pub type Hub = fn(&FirstBundle) -> Outcome;
+/// How long a first reply is held to be, by how many pairs are reported of each door in each state.
+pub type Counted = fn(&[Vec<usize>]) -> usize;
 
 /// Nodes that are stopped, by root and door bit.
 pub const STOPPED: [Named<Taken>; 3] = [
@@ -140,6 +142,28 @@ pub const STRAYS: [Named<Hub>; 14] = [
     ("door 0 not found", |bundle| not_found(bundle, |door| door == 0)),
     ("door 65535 not found", |bundle| not_found(bundle, |door| door == 65_535)),
 ];
+
+/// The length of a first reply. It is seen in the number alone: a reply is refused that fits, or the other way.
+pub const LENGTHS: [Named<Counted>; 6] = [
+    ("the length starts at 0", |doors| length(doors) - 1),
+    ("door words not counted", |doors| length(doors) - doors.len()),
+    ("a reach word of each door not counted", |doors| {
+        length(doors) - doors.iter().filter(|rows| rows.iter().any(|pairs| *pairs > 0)).count()
+    }),
+    ("row words not counted", |doors| length(doors) - rows_with(doors, |pairs| pairs > 0)),
+    ("rows without reach words counted", |doors| length(doors) + rows_with(doors, |pairs| pairs == 0)),
+    ("doors without rows not counted", |doors| {
+        length(doors) - doors.iter().filter(|rows| rows.iter().all(|pairs| *pairs == 0)).count()
+    }),
+];
+
+fn length(doors: &[Vec<usize>]) -> usize {
+    running_lengths(doors)[doors.len()]
+}
+
+fn rows_with(doors: &[Vec<usize>], picked: impl Fn(usize) -> bool) -> usize {
+    doors.iter().flatten().filter(|pairs| picked(**pairs)).count()
+}
 
 /// A label word that is refused.
 const NO_SORT: u32 = LABEL << 28 | 3 << 24;

@@ -1,2 +1,4 @@
 pub mod Wording
 pub mod Reports
+pub mod Length
+pub mod Examples

@@ -3,10 +3,10 @@ use mathlib.Core.Path.{_≡_, refl, sym, _∙_, ap, subst}
 use mathlib.Core.Logic.{_↔_, _⊎_, inl, inr, ⊎-elim}
 use mathlib.Core.Bool.{Bool, true, false}
 use mathlib.Core.List.{List, [], _∷_, _++_, map, Memᴰ·map, Memᴰ·of-map, Memᴰ·append-left, Memᴰ·append-right, List·Memᴰ·append-cases, List·Memᴰ·eq-of-singleton}
-use Prim.Native.Nat.{ℕ, zero, suc, _+_, _%_, _≤_, _<_}
+use Prim.Native.Nat.{ℕ, zero, suc, _+_, _≤_, _<_}
 use native.Mathlib.Omega.{arith}
 use native.Mathlib.Numerals.{add-one}
-use lib.ListN.{length, getD, drop, length-map}
+use lib.ListN.{length, getD, drop, length-append, length-map}
 use Rattle.sets.specs.Sets.{Mem, here, there, Ascending, member}
 use Rattle.sets.specs.Reach.{Reach, seed, next}
 use Rattle.sets.specs.States.{hasState, statesOf}
@@ -17,7 +17,6 @@ use Rattle.sets.proofs.Tests.{either, passed, is-true}
 use Rattle.sets.proofs.Cases.{eq-or-ne, and-left, clash}
 use Rattle.files.specs.Field.{nodeOf, doorOf, rootOf, doorWord, rowWord, reachWord, pair, pairNode, pairState}
 use Rattle.files.specs.Part.{isNode, isDoor, nodes}
-use Rattle.files.proofs.Fields.{node-below}
 use Rattle.files.specs.Limits.{replyWords}
 use Rattle.expressions.specs.Expr.{Expr, count}
 use Rattle.slots.specs.Slots.{nodeAt, number, placeOf, reachedOf, isReached, Laid}
@@ -38,6 +37,21 @@ use Rattle.first_replies.specs.FirstReply.{reported, rowWords}
 use Rattle.reporting.specs.Reporting.{Idle, Ready, MayReport, Reports, rowAt, rowsBelow, doorAt, wordsAt, wordsBelow}
 use Rattle.first_replies.proofs.Reported.{reported-lists}
 use Rattle.reporting.proofs.Wording.{door-is}
+
+-- ---- counts, whatever stands in the output
+
+module _ (limit : ℕ) where
+  counts-none : (c : ℕ) → Counts limit c 0 c
+  counts-none c m h = omega (arith, h)
+
+  counts-more : {a b c : ℕ} (j k : ℕ) → Counts limit a j b → Counts limit b k c → Counts limit a (j + k) c
+  counts-more j k f g m h = omega (arith, g (m + j) (f m h))
+
+  -- past the limit nothing is counted
+  counts-full : {c : ℕ} (k : ℕ) → limit < c → Counts limit c k c
+  counts-full k l m h = omega (arith, h)
+
+-- ---- a row
 
 -- the words of a row, if it has any
 row-none : (q : ℕ) (cs : List ℕ) → length cs ≡ 0 → [] ≡ rowWords q cs
@@ -158,15 +172,21 @@ module _ (ws : List ℕ) (t i q : ℕ) {w₁ w₂ w₃ follow : List ℕ} {top :
   pub row-added : {w₄ out out′ : List ℕ} {c r k : ℕ} → ((us : List ℕ) → k ≡ length (pairsUpTo us w₃ t)) → (k ≡ 0 → ⊥)
       → Puts replyWords (length out) out c out′ (rowWord q ∷ map reachWord (pairsUpTo ws w₃ t)) → Counts replyWords c (k + 1) r → Fresh ws t w₃ w₄
       → length out′ ≡ length out → Reports ws t follow w₁ out c w₄ out′ r (rowAt ws i q)
-  row-added {w₄} l z h g fresh same = record {
+  row-added {w₄} {k = k} l z h g fresh same = record {
     again = record {
       kept = kept-trans (seeded .kept) (kept-trans (searched .kept) (fresh .kept));
       ready = ready-blank ws t follow w₄ (fresh .begun) (fresh .blank);
     };
     same = same;
-    adds = λ e f tab. rw (sym (row-some q (pairsUpTo ws w₃ t) (λ o. z (l ws ∙ o)) ∙ ap (rowWords q) (row-reported e f tab)))
-        (writes-counted (rowWord q ∷ map reachWord (pairsUpTo ws w₃ t)) h g (simp length-map (omega (arith, l ws))));
+    adds = λ e f tab. rw (sym (words e f tab)) (writes-counted (rowWord q ∷ map reachWord (pairsUpTo ws w₃ t)) h g size);
+    counts = λ e f tab. rw (sym (words e f tab), ← size) g;
   }
+    where
+      size : k + 1 ≡ length (rowWord q ∷ map reachWord (pairsUpTo ws w₃ t))
+      size = simp length-map (omega (arith, l ws))
+
+      words : (e : Expr) (f : Follow e follow) (tab : Tables ws e t w₁) → rowWord q ∷ map reachWord (pairsUpTo ws w₃ t) ≡ rowAt ws i q e
+      words e f tab = row-some q (pairsUpTo ws w₃ t) (λ o. z (l ws ∙ o)) ∙ ap (rowWords q) (row-reported e f tab)
 
   -- no row is written, and the marks stay
   module _ {k : ℕ} (l : (us : List ℕ) → k ≡ length (pairsUpTo us w₃ t)) (z : k ≡ 0) where
@@ -193,9 +213,12 @@ module _ (ws : List ℕ) (t i q : ℕ) {w₁ w₂ w₃ follow : List ℕ} {top :
         ready = record { begun = searched .begun; closed = searched .closed; idle = idle };
       };
       same = refl;
-      adds = λ e f tab. rw (sym (row-none q (pairsUpTo ws w₃ t) (sym (l ws) ∙ z) ∙ ap (rowWords q) (row-reported e f tab)))
-          (writes-none replyWords (length out) out c);
+      adds = λ e f tab. rw (sym (none e f tab)) (writes-none replyWords (length out) out c);
+      counts = λ e f tab. rw (sym (none e f tab)) (counts-none replyWords c);
     }
+      where
+        none : (e : Expr) (f : Follow e follow) (tab : Tables ws e t w₁) → [] ≡ rowAt ws i q e
+        none e f tab = row-none q (pairsUpTo ws w₃ t) (sym (l ws) ∙ z) ∙ ap (rowWords q) (row-reported e f tab)
 
 -- what a row needs of the tables
 pub row-room : {ws : List ℕ} {t : ℕ} {w : List ℕ} → Laid ws t w → Places w t
@@ -214,7 +237,12 @@ row-few {t = t} {w = w} laid l = omega (arith, l [], pairs-few [] w t, row-room 
 module _ {ws : List ℕ} {t : ℕ} {follow : List ℕ} where
   pub reports-none : (w out : List ℕ) (count : ℕ) → Ready ws t follow w → Reports ws t follow w out count w out count (λ e. [])
   reports-none w out count r =
-      record { again = record { kept = kept-refl ws t w; ready = r }; same = refl; adds = λ e f tab. writes-none replyWords (length out) out count }
+      record {
+        again = record { kept = kept-refl ws t w; ready = r };
+        same = refl;
+        adds = λ e f tab. writes-none replyWords (length out) out count;
+        counts = λ e f tab. counts-none replyWords count;
+      }
 
   pub reports-more : {w w′ w″ out out′ out″ : List ℕ} {count r s : ℕ} (us vs : Expr → List ℕ) → Reports ws t follow w out count w′ out′ r us
       → Reports ws t follow w′ out′ r w″ out″ s vs → Reports ws t follow w out count w″ out″ s (λ e. us e ++ vs e)
@@ -222,12 +250,14 @@ module _ {ws : List ℕ} {t : ℕ} {follow : List ℕ} where
     again = record { kept = kept-trans (a .again .kept) (b .again .kept); ready = b .again .ready };
     same = b .same ∙ a .same;
     adds = λ e f tab. writes-more (us e) (vs e) (a .adds e f tab) (rw (a .same) at (b .adds e f (tables-kept (a .again .kept) tab)));
+    counts = λ e f tab. rw length-append (counts-more replyWords (length (us e)) (length (vs e)) (a .counts e f tab) (b .counts e f (tables-kept (a .again .kept) tab)));
   }
 
   -- a report of some words is one of equal words
   pub reports-as : {w w′ out out′ : List ℕ} {count r : ℕ} (us vs : Expr → List ℕ) → ((e : Expr) → us e ≡ vs e) → Reports ws t follow w out count w′ out′ r us
       → Reports ws t follow w out count w′ out′ r vs
-  reports-as us vs h a = record { again = a .again; same = a .same; adds = λ e f tab. rw (h e) at (a .adds e f tab) }
+  reports-as us vs h a =
+      record { again = a .again; same = a .same; adds = λ e f tab. rw (h e) at (a .adds e f tab); counts = λ e f tab. rw (h e) at (a .counts e f tab) }
 
   -- a loop: `below k` are the words of the turns before turn k, and turn k adds `turn k`
   pub reports-next : {w w′ w″ out out′ out″ : List ℕ} {count r s : ℕ} (below turn : ℕ → Expr → List ℕ) (k : ℕ)
@@ -255,11 +285,17 @@ words-next ws n i e = rw add-one
 
 -- ---- a door
 
-pub door-added : {t : ℕ} {follow w₁ w₂ a b d : List ℕ} {c r s w v : ℕ} (ws : List ℕ) (n i : ℕ) → Ready ws t follow w₁ → w ≡ getD ws i 0
-    → v ≡ doorWord (nodeOf w) (rootOf w) → Writes replyWords (length a) a c b r (v ∷ []) → length b ≡ length a
+-- the door word is put, and counted as one word; c₁ is what its writer counts
+pub door-added : {t : ℕ} {follow w₁ w₂ a b d : List ℕ} {c c₁ r s w v : ℕ} (ws : List ℕ) (n i : ℕ) → Ready ws t follow w₁ → w ≡ getD ws i 0
+    → v ≡ doorWord (nodeOf w) (rootOf w) → Writes replyWords (length a) a c b c₁ (v ∷ []) → Counts replyWords c 1 r → length b ≡ length a
     → Reports ws t follow w₁ b r w₂ d s (rowsBelow ws i (n + 1)) → Reports ws t follow w₁ a c w₂ d s (doorAt ws n i)
-door-added {t} {follow} {w₁} {a = a} {b = b} {c = c} {r = r} {v = v} ws n i g q h f l m =
-    let one : Reports ws t follow w₁ a c w₁ b r (λ e. v ∷ []) = record { again = record { kept = kept-refl ws t w₁; ready = g }; same = l; adds = λ e y tab. f } in
+door-added {t} {follow} {w₁} {a = a} {b = b} {c = c} {r = r} {v = v} ws n i g q h f k l m =
+    let one : Reports ws t follow w₁ a c w₁ b r (λ e. v ∷ []) = record {
+      again = record { kept = kept-refl ws t w₁; ready = g };
+      same = l;
+      adds = λ e y tab. writes-counted (v ∷ []) (λ us p. f us p .out-is) k refl;
+      counts = λ e y tab. k;
+    } in
     reports-as (λ e. v ∷ rowsBelow ws i (n + 1) e) (doorAt ws n i) (λ e. door-is ws n i e q h) (reports-more (λ e. v ∷ []) (rowsBelow ws i (n + 1)) one m)
 
 -- ---- a position
@@ -268,15 +304,25 @@ door-added {t} {follow} {w₁} {a = a} {b = b} {c = c} {r = r} {v = v} ws n i g 
 pub over-added : {ws : List ℕ} {t : ℕ} {follow w out : List ℕ} {c : ℕ} (owed : Expr → List ℕ) → Ready ws t follow w → replyWords < c
     → Reports ws t follow w out c w out c owed
 over-added {ws} {t} {w = w} {out = out} owed g h =
-    record { again = record { kept = kept-refl ws t w; ready = g }; same = refl; adds = λ e f tab us r. written-full replyWords (length out) us (owed e) h r }
+    record {
+      again = record { kept = kept-refl ws t w; ready = g };
+      same = refl;
+      adds = λ e f tab us r. written-full replyWords (length out) us (owed e) h r;
+      counts = λ e f tab. counts-full replyWords (length (owed e)) h;
+    }
 
-module _ {t : ℕ} {follow : List ℕ} (ws : List ℕ) (n i : ℕ) {v : ℕ} {x : Bool} (f : v ≡ getD ws i 0) (g : x ≡ isDoor v) where
-  pub here-some : {w w′ a b : List ℕ} {c r : ℕ} → x ≡ true → Reports ws t follow w a c w′ b r (doorAt ws n i) → Reports ws t follow w a c w′ b r (wordsAt ws n i)
-  here-some h m = reports-as (doorAt ws n i) (wordsAt ws n i) (λ e. rw (← f, ← g, h)) m
+module _ {t : ℕ} {follow : List ℕ} (ws : List ℕ) (n i : ℕ) where
+  pub here-some : {w w′ a b : List ℕ} {c r : ℕ} → isDoor (getD ws i 0) ≡ true → Reports ws t follow w a c w′ b r (doorAt ws n i)
+      → Reports ws t follow w a c w′ b r (wordsAt ws n i)
+  here-some d m = reports-as (doorAt ws n i) (wordsAt ws n i) (λ e. rw d) m
 
-  pub here-none : {w a : List ℕ} {c : ℕ} → x ≡ false → Ready ws t follow w → Reports ws t follow w a c w a c (wordsAt ws n i)
-  here-none {w} {a} {c} h m = reports-as (λ e. []) (wordsAt ws n i) (λ e. rw (← f, ← g, h)) (reports-none w a c m)
+  pub here-none : {w a : List ℕ} {c : ℕ} → isDoor (getD ws i 0) ≡ false → Ready ws t follow w → Reports ws t follow w a c w a c (wordsAt ws n i)
+  here-none {w} {a} {c} d m = reports-as (λ e. []) (wordsAt ws n i) (λ e. rw d) (reports-none w a c m)
 
-pub door-node : (ws : List ℕ) (i : ℕ) {v : ℕ} {t : Bool} → v ≡ getD ws i 0 → t ≡ isDoor v → t ≡ true → nodeAt ws i ≡ true
+-- whether a door stands at position i, by the word that was read there
+pub door-read : (ws : List ℕ) (i : ℕ) {v : ℕ} {x y : Bool} → v ≡ getD ws i 0 → x ≡ isDoor v → x ≡ y → isDoor (getD ws i 0) ≡ y
+door-read ws i f g h = ap isDoor (sym f) ∙ sym g ∙ h
+
+pub door-node : (ws : List ℕ) (i : ℕ) → isDoor (getD ws i 0) ≡ true → nodeAt ws i ≡ true
 unfolding nodeAt
-door-node ws i {v} f g h = and-left (isNode (getD ws i 0)) (doorOf (getD ws i 0)) (ap isDoor (sym f) ∙ sym g ∙ h)
+door-node ws i d = and-left (isNode (getD ws i 0)) (doorOf (getD ws i 0)) d

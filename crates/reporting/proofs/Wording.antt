@@ -18,7 +18,7 @@ use Rattle.walks.specs.Product.{positions}
 use Rattle.first_replies.specs.FirstReply.{doorWords}
 use Rattle.reporting.specs.Reporting.{rowAt, rowsBelow, doorAt, wordsAt, wordsBelow}
 
-flat-append : {A : Type 0} (f : A → List ℕ) (xs ys : List A) → flatten (map f (xs ++ ys)) ≡ flatten (map f xs) ++ flatten (map f ys)
+pub flat-append : {A : Type 0} (f : A → List ℕ) (xs ys : List A) → flatten (map f (xs ++ ys)) ≡ flatten (map f xs) ++ flatten (map f ys)
 unfolding flatten
 flat-append f [] ys = refl
 flat-append f (x ∷ xs) ys = rw (flat-append f xs ys, append-assoc)
@@ -57,7 +57,7 @@ words-below ws e n (suc k) h =
     )
     (ap (λ x. x ++ wordsAt ws n k e) (words-below ws e n k (omega arith)))
 
-header-no-door : (ws : List ℕ) → nodeAt ws 0 ≡ false → filter isDoor ws ≡ filter isDoor (drop 1 ws)
+pub header-no-door : (ws : List ℕ) → nodeAt ws 0 ≡ false → filter isDoor ws ≡ filter isDoor (drop 1 ws)
 unfolding nodeAt
 header-no-door [] n = refl
 header-no-door (h ∷ ws) n = rw n

@@ -1,12 +1,14 @@
-// The rows of a first reply: at each door, for each state, a search inside the part and what it reached outside.
+// The rows of a first reply: at each door, for each state, a search inside the part and what it reached outside. The reply's length is a value
+// that runs along the doors, and `advance` alone moves it: by one for a door word, by its pairs and one for a row.
 ghost use mathlib.Core.Path.{_≡_};
 ghost use mathlib.Core.Bool.{true};
 ghost use Prim.Native.Nat.{_+_, _<_, _≤_};
-ghost use lib.ListN.{length};
+ghost use lib.ListN.{length, getD};
 ghost use Rattle.files.specs.Word.{words};
 ghost use Rattle.files.specs.Field.{nodeOf, rootOf, doorWord};
+ghost use Rattle.files.specs.Part.{isDoor};
 ghost use Rattle.slots.specs.Slots.{nodeAt};
-ghost use Rattle.reporting.specs.Reporting.{MayReport, Reports, rowAt, rowsBelow, doorAt, wordsAt, wordsBelow};
+ghost use Rattle.reporting.specs.Reporting.{MayReport, Reports, rowAt, rowsBelow, doorAt, wordsAt, wordsBelow, DoorAdds, RunsPast};
 use files::field::node;
 use files::field::root;
 use files::limits::REPLY_WORDS;
@@ -79,7 +81,8 @@ fn door_of(w: u32) -> u32
     door_word(node(w), root(w))
 }
 
-// The door at position i with its rows.
+// The door at position i with its rows. Its work adds just its own words to the length. The count that `push` hands back is not used: it is
+// promised only where the output is known to hold the words before, and the length is to be right whatever stands there.
 fn report_door(
     part: &[u8],
     follow: [u16; 16],
@@ -90,12 +93,13 @@ fn report_door(
     out: &mut [u8],
     start: usize,
 ) -> usize
-    requires { ⌜ MayReport (words (now part)) outside follow (now work) (now out) × (nodeAt (words (now part)) i ≡ true) × (n ≤ 15) ⌝ }
+    requires { ⌜ MayReport (words (now part)) outside follow (now work) (now out) × (isDoor (getD (words (now part)) i 0) ≡ true) × (n ≤ 15) ⌝ }
     ensures { λ r. ⌜ Reports (words (now (part .entry))) outside follow (now (work .entry)) (now (out .entry)) start (now (work .exit)) (now (out .exit)) r
-        (doorAt (words (now (part .entry))) n i) ⌝ }
+        (doorAt (words (now (part .entry))) n i) × DoorAdds (words (now (part .entry))) outside follow (now (work .entry)) n i start r ⌝ }
 {
     let w = door_of(word_at(part, i));
-    let count = push(out, REPLY_WORDS, start, w);
+    push(out, REPLY_WORDS, start, w);
+    let count = advance(REPLY_WORDS, start, 1);
     report_states(part, follow, work, outside, i, n, out, count)
 }
 
@@ -112,7 +116,7 @@ fn report_at(
 ) -> usize
     requires { ⌜ MayReport (words (now part)) outside follow (now work) (now out) × (n ≤ 15) ⌝ }
     ensures { λ r. ⌜ Reports (words (now (part .entry))) outside follow (now (work .entry)) (now (out .entry)) start (now (work .exit)) (now (out .exit)) r
-        (wordsAt (words (now (part .entry))) n i) ⌝ }
+        (wordsAt (words (now (part .entry))) n i) × RunsPast (words (now (part .entry))) outside follow (now (work .entry)) n i start r ⌝ }
 {
     if REPLY_WORDS < start {
         return start;
@@ -123,7 +127,7 @@ fn report_at(
     start
 }
 
-// All doors.
+// All doors. From 1, the header's word, `length` is before each door the count of the reply's words up to there.
 pub fn report_doors(
     part: &[u8],
     follow: [u16; 16],
@@ -138,11 +142,11 @@ pub fn report_doors(
         (wordsBelow (words (now (part .entry))) n (length (words (now (part .entry))))) ⌝ }
 {
     let size = part.len() / 4;
-    let mut count = start;
+    let mut length = start;
     let mut i = 0;
     while i < size {
-        count = report_at(part, follow, work, outside, i, n, out, count);
+        length = report_at(part, follow, work, outside, i, n, out, length);
         i += 1;
     }
-    count
+    length
 }

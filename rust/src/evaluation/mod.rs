@@ -1,7 +1,7 @@
-//! Document 01 evaluated, with labels outside a range (request 1), groups that a call is handed (request 3), links that nobody walks (request
-//! 5), stopped nodes (request 7) and eight operands waiting at most (request 9): every call as a function from bytes and buffer lengths to a
-//! refusal or the result's words. It is written from the documents alone, for plainness and not for speed, and shares no method with the
-//! library where they leave a choice.
+//! Document 01 evaluated, with labels outside a range (request 1), groups that a call is handed (request 3), the length of a first reply
+//! before each door (request 4), links that nobody walks (request 5), stopped nodes (request 7) and eight operands waiting at most (request
+//! 9): every call as a function from bytes and buffer lengths to a refusal or the result's words. It is written from the documents alone, for
+//! plainness and not for speed, and shares no method with the library where they leave a choice.
 
 pub mod groups;
 pub mod hub;

@@ -29,22 +29,43 @@ pub fn pair_word(kind: u32, (node, state): Pair) -> u32 {
     kind << 28 | node << 4 | state as u32
 }
 
-pub fn first_reply_words(part: &Part, path: &Path) -> Vec<u32> {
+/// What is reported of each door in each state: the pairs outside the part.
+fn reports(part: &Part, path: &Path) -> Vec<Vec<Vec<Pair>>> {
     let states = States::of(path);
+    let report = |door: u32, q: usize| {
+        let reached = walks(part, path, &states, &[(door, q)]);
+        reached.into_iter().filter(|pair| part.node(pair.0).is_none()).collect()
+    };
+    part.doors().map(|door| (0..=path.n()).map(|q| report(door.number, q)).collect()).collect()
+}
+
+pub fn first_reply_words(part: &Part, path: &Path) -> Vec<u32> {
     let mut words = vec![];
-    for door in part.doors() {
+    for (door, rows) in part.doors().zip(reports(part, path)) {
         words.push(DOOR << 28 | u32::from(door.root) << 16 | door.number);
-        for q in 0..=path.n() {
-            let reached = walks(part, path, &states, &[(door.number, q)]);
-            let outside = reached.into_iter().filter(|pair| part.node(pair.0).is_none());
-            let row: Vec<u32> = outside.map(|pair| pair_word(REACH, pair)).collect();
-            if !row.is_empty() {
-                words.push(ROW << 28 | q as u32);
-                words.extend(row);
-            }
+        for (q, row) in rows.into_iter().enumerate().filter(|(_, row)| !row.is_empty()) {
+            words.push(ROW << 28 | q as u32);
+            words.extend(row.into_iter().map(|pair| pair_word(REACH, pair)));
         }
     }
     file(FIRST, part.site, path.n() as u32, &words)
+}
+
+/// How many pairs are reported of each door in each state.
+pub fn report_sizes(part: &Part, path: &Path) -> Vec<Vec<usize>> {
+    let sizes = |rows: Vec<Vec<Pair>>| rows.iter().map(Vec::len).collect();
+    reports(part, path).into_iter().map(sizes).collect()
+}
+
+/// How many words a first reply has before each door, and at its end: a header, for each door a door word, and for each state with anything
+/// to report a row word and a word for each pair.
+pub fn running_lengths(sizes: &[Vec<usize>]) -> Vec<usize> {
+    let row = |pairs: &usize| if *pairs == 0 { 0 } else { 1 + pairs };
+    let mut lengths = vec![1];
+    for rows in sizes {
+        lengths.push(lengths[lengths.len() - 1] + 1 + rows.iter().map(row).sum::<usize>());
+    }
+    lengths
 }
 
 pub fn second_reply_words(part: &Part, path: &Path, calls: &[Pair]) -> Vec<u32> {

@@ -80,22 +80,44 @@ fn asked(random: &mut Random, plant: fn(&mut Random, &[u32]) -> Plant, grouped: 
     (part, groups, path)
 }
 
+/// A door with links of label 0 to so many targets, the first of them `first`.
+fn dear_door(number: u32, first: u32, targets: usize) -> Node {
+    let edges = (first..).take(targets).map(|target| (0, target)).collect();
+    Node { number, door: true, root: false, stopped: false, edges }
+}
+
+/// With how many targets so many such doors have a reply of at most so many words, for a star of an or of n words that hold 0.
+fn targets_within(words: usize, doors: usize, n: usize) -> usize {
+    (((words - 1) / doors - 1) / (n + 1) - 1) / n
+}
+
 /// Doors with links of label 0 to the same targets, and a star of an or of words that hold 0: a reply near its limit, if no door is stopped.
 pub fn dearly_asked(random: &mut Random, grouped: bool) -> Asked {
     let (doors, n) = (random.between(1, 3), random.between(1, 15));
-    let fits = (4095 / doors - 1) / (n + 1) - 1;
-    let targets = (fits / n + random.below(2)).clamp(1, 4000 / doors) as u32;
+    let targets = (targets_within(FILE_LIMIT, doors, n) + random.below(2)).clamp(1, 4000 / doors);
     let node = |door: usize| Node {
-        number: 8 * door as u32,
-        door: true,
         root: door == 1,
         stopped: random.chance(8),
-        edges: (0..targets).map(|target| (0, 30 + target)).collect(),
+        ..dear_door(8 * door as u32, 30, targets)
     };
     let part = Part { site: 9, nodes: (0..doors).map(node).collect() };
     let path = path::or_of(path::any_label(random, &[0]), n, true);
     let (groups, path) = groups::grouped(random, &[0], path, grouped);
     (part, groups, path)
+}
+
+/// A part and a path whose first reply has just so many words: doors as above, and, among them, doors without links for the words that are
+/// left.
+pub fn asked_for_words(random: &mut Random, words: usize) -> (Part, Vec<u32>) {
+    let (doors, n) = (random.between(1, 3), random.between(1, 15));
+    let targets = targets_within(words, doors, n).min(3000 / doors);
+    let lone = words - 1 - doors * (1 + (n + 1) * (1 + targets * n));
+    let mut places: Vec<usize> =
+        (0..doors + lone).map(|place| if place < doors { targets } else { 0 }).collect();
+    random.shuffle(&mut places);
+    let node = |(place, targets): (usize, usize)| dear_door(8 * place as u32, 50_000, targets);
+    let nodes = places.into_iter().enumerate().map(node).collect();
+    (Part { site: 9, nodes }, path::or_of(path::range(0, 4095), n, true))
 }
 
 fn first_reply(random: &mut Random, grouped: bool) -> Call {

@@ -1,6 +1,5 @@
 -- `reporting::reporting::door_of` meets its contract. Assumes nothing.
 use borrow.Author.Needs.{needs}
-use Rattle.files.proofs.Fields.{node-below}
 use Rattle.reporting.proofs.reporting.door_of.Statement.{statement}
 use Rattle.reporting.proofs.reporting.door_of.Tie as tie
 

@@ -24,7 +24,7 @@ returns c =
     let a = start .args in
     let p = start .pre in
     row-empty (words (a .part .now)) (a .outside) (a .i) (a .q) (p .0 .ready) (p .1) (p .2) (seed .seed .ensures) (run .run .ensures)
-    (row .row-length .ensures) (c .if1 .taken)
+    (row .row-length .ensures) (omega (arith, c .if1 .taken))
 
 write-row-requires : tie.Need-write-row-requires
 write-row-requires c κs =
@@ -53,7 +53,7 @@ returns-2 c =
     let a = start .args in
     let p = start .pre in
     row-added (words (a .part .now)) (a .outside) (a .i) (a .q) (p .0 .ready) (p .1) (p .2) (seed .seed .ensures) (run .run .ensures)
-    (row .row-length .ensures) (some .if1 .left) (write .write-row .ensures) (c .advance .ensures) (reset .reset .ensures) (search (out .out .given, needs))
+    (row .row-length .ensures) (λ e. omega (arith, some .if1 .left, e)) (write .write-row .ensures) (c .advance .ensures) (reset .reset .ensures) (search (out .out .given, needs))
 
 pub report-row-spec : {M : Type 1} → statement M
 report-row-spec =
