@@ -1,6 +1,7 @@
-//! The library's nine calls on what is asked.
+//! The library's ten calls on what is asked.
 use crate::calls;
 use crate::inputs::Ask;
+use crate::timing::two_outputs;
 
 pub fn old_search(ask: &Ask, out: &mut [u8], work: &mut [u8]) -> u32 {
     calls::old_search(&ask.file, &ask.path, out, work)
@@ -36,4 +37,9 @@ pub fn second_reply_grouped(ask: &Ask, out: &mut [u8], work: &mut [u8]) -> u32 {
 
 pub fn join(ask: &Ask, out: &mut [u8], work: &mut [u8]) -> u32 {
     calls::join(&ask.file, out, work)
+}
+
+pub fn dearest(ask: &Ask, out: &mut [u8], work: &mut [u8]) -> u32 {
+    let ([doors, targets, labels], [part, path]) = (ask.counts, two_outputs(out));
+    calls::dearest(doors, targets, labels, part, path, work)
 }

@@ -1,4 +1,4 @@
-//! The nine calls of the library beside plain Rust versions of the same algorithms, and beside better ones where such are known.
+//! The ten calls of the library beside plain Rust versions of the same algorithms, and beside better ones where such are known.
 mod best;
 #[path = "../rust/src/calls.rs"]
 mod calls;
@@ -27,6 +27,7 @@ fn calls() -> Vec<Call> {
         call("call list", 8192, inputs::call_list(), vec![l::call_list, p::call_list, b::call_list]),
         call("second reply", 4096, inputs::second_reply(), vec![l::second_reply, p::second_reply, b::second_reply]),
         call("join", 8192, inputs::join(), vec![l::join, p::join]),
+        call("dearest", 4096, inputs::dearest(), vec![l::dearest, p::dearest]),
         grouped("old search, grouped", old, vec![l::old_search_grouped, p::old_search_grouped, l::old_search]),
         grouped("first reply, grouped", first, vec![l::first_reply_grouped, p::first_reply_grouped, l::first_reply]),
         grouped("second reply, grouped", second, vec![l::second_reply_grouped, p::second_reply_grouped, l::second_reply]),

@@ -41,8 +41,14 @@ fn list(values: impl Iterator<Item = f64>, places: usize) -> String {
     values.map(|v| format!("{v:.places$}")).collect::<Vec<_>>().join(" ")
 }
 
+/// Times that stay below ten microseconds have a digit more.
+fn times(sizes: &[Measured]) -> String {
+    let micros = || sizes.iter().map(|m| m.least[0] * 1e6);
+    list(micros(), usize::from(micros().all(|time| time < 10.0)))
+}
+
 fn row(shape: &Shape, sizes: &[Measured], last: String) {
-    let library = list(sizes.iter().map(|m| m.least[0] * 1e6), 0);
+    let library = times(sizes);
     let growth = list(sizes.windows(2).map(|m| m[1].least[0] / m[0].least[0]), 1);
     let ratio = list(sizes.iter().map(|m| m.ratios[1]), 2);
     println!("| {} | {library} | {growth} | {ratio} | {last} |", shape.name);

@@ -56,6 +56,12 @@ impl Buffers {
     }
 }
 
+/// The output that versions are handed as two of the least lengths, a part's and a path's. What is behind these stays as it is.
+pub fn two_outputs(out: &mut [u8]) -> [&mut [u8]; 2] {
+    let (part, rest) = out.split_at_mut(16_384);
+    [part, &mut rest[..256]]
+}
+
 /// The seconds of each version of a call in each round.
 struct Rounds(Vec<Vec<f64>>);
 

@@ -7,6 +7,7 @@
 #include <string.h>
 
 #include "calls.h"
+#include "checks.h"
 #include "compare.h"
 #include "drafts.h"
 
@@ -485,7 +486,7 @@ static void test_order(enum call name, const struct choice *const *inputs, int c
     static struct sample s;
     struct span found;
     for (unsigned i = 0; i < 1u << 2 * count; i++) {
-        struct asked asked = {name, {{NULL, 0}}, 0};
+        struct asked asked = {name, {{NULL, 0}}, {0}};
         uint32_t number = 0;
         for (int k = count - 1; k >= 0; k--) {
             const struct choice *chosen = &inputs[k][i >> 2 * k & 3];
@@ -506,23 +507,22 @@ static void test_orders(void)
     test_order(SECOND_REPLY_GROUPED, site, 4);
 }
 
+static void test_counts(uint32_t doors, uint32_t targets, uint32_t labels, uint32_t number)
+{
+    const struct asked asked = {DEAREST, {{NULL, 0}}, {doors, targets, labels}};
+    struct span found;
+    must_be("number of the dearest part and path", number, call(&asked, &found));
+}
+
 /* Row 15: two doors, so many targets each, the star of an or of 15 full ranges; then with groups too. */
 static void test_dear_reply(uint32_t targets, uint32_t number, size_t words)
 {
-    static struct sample part, path;
-    static uint8_t a[4 * MOST], b[4 * MOST];
+    struct draft part = {.len = 0}, path = {.len = 0};
     struct span found;
-    parse(&part, AS_PART, "10000000");
-    for (uint32_t x = 0; x < 2; x++) {
-        push(&part.file[0], 0x20010000 + x);
-        for (uint32_t t = 0; t < targets; t++)
-            push(&part.file[0], 0x30000002 + t);
-    }
-    head(&part.file[0], 0x10000000);
-    fill_or(&path, 15, 0x50fff000, 15, MOWQACHI_WAITING);
-    push(&path.file[0], 0x60000003);
-    head(&path.file[0], 0x40f00000);
-    struct asked asked = {FIRST_REPLY, {bytes_of(&part.file[0], a), bytes_of(&path.file[0], b)}, 0};
+    test_counts(2, targets, MOWQACHI_PATH_LABELS, 0);
+    put_bytes(&part, result_of(0));
+    put_bytes(&path, result_of(1));
+    struct asked asked = {FIRST_REPLY, {span_of(&part), span_of(&path)}, {0}};
     must_be("number of the dear reply", number, call(&asked, &found));
     must_be("words of the dear reply", words, words_of(found));
     asked = with_groups(&asked, our_groups);
@@ -552,12 +552,28 @@ static void test_long_list(uint32_t further, bool door, uint32_t number, size_t 
     if (door)
         push(&f, 0x80000100);
     head(&f, 0x71f00000);
-    struct asked asked = {CALL_LIST, {{bytes, first.len + bytes_of(&f, bytes + first.len).len}}, 0};
+    struct asked asked = {CALL_LIST, {{bytes, first.len + bytes_of(&f, bytes + first.len).len}}, {0}};
     must_be("number of the long call list", number, call(&asked, &found));
     must_be("words of the long call list", words, words_of(found));
 }
 
-/* Number 1 at every call, ahead of inputs that would be refused too; longer buffers are fine. */
+/* Number 1, ahead of inputs that would be refused too; longer buffers are fine. */
+static void test_room(const struct asked *asked)
+{
+    const struct asked none = {asked->call, {{NULL, 0}}, {99}};
+    const struct room least = room_for(asked->call);
+    must_be("number at just enough", 0, call_with(asked, least));
+    must_be("number with more", 0, call_with(asked, (struct room){{least.out[0] + 1234567, least.out[1] + 7}, least.work + 3}));
+    for (int k = 0; k < OUTPUTS && least.out[k] > 0; k++) {
+        struct room room = least;
+        room.out[k]--;
+        must_be("number of a short output", 1, call_with(asked, room));
+        must_be("number of a short output and no inputs", 1, call_with(&none, room));
+    }
+    must_be("number of a short working buffer", 1, call_with(asked, (struct room){{least.out[0], least.out[1]}, least.work - 1}));
+    must_be("number of no buffers and inputs", 1, call_with(&none, (struct room){{0}, 0}));
+}
+
 static void test_buffers(void)
 {
     static uint8_t bytes[6][4 * 64];
@@ -569,19 +585,12 @@ static void test_buffers(void)
         parse(&s, AS_PART, texts[k]);
         f[k] = bytes_of(&s.file[0], bytes[k]);
     }
-    const struct asked asked[] = {{OLD_SEARCH, {f[0], f[1]}, 0}, {CUT, {f[0], cut}, 1}, {FIRST_REPLY, {f[2], f[1]}, 0},
-                                  {CALL_LIST, {f[3]}, 0}, {SECOND_REPLY, {f[2], f[1], f[4]}, 0}, {JOIN, {f[5]}, 0},
-                                  {OLD_SEARCH_GROUPED, {f[0], our_groups, f[1]}, 0}, {FIRST_REPLY_GROUPED, {f[2], our_groups, f[1]}, 0},
-                                  {SECOND_REPLY_GROUPED, {f[2], our_groups, f[1], f[4]}, 0}};
-    for (int c = 0; c < CALL_COUNT; c++) {
-        const struct asked none = {asked[c].call, {{NULL, 0}}, 99};
-        size_t out = output_bytes(asked[c].call), work = MOWQACHI_WORK_BYTES;
-        must_be("number at just enough", 0, call_with(&asked[c], out, work));
-        must_be("number with more", 0, call_with(&asked[c], out + 1234567, work + 3));
-        must_be("number of a short output", 1, call_with(&asked[c], out - 1, work));
-        must_be("number of a short working buffer", 1, call_with(&asked[c], out, work - 1));
-        must_be("number of no buffers and inputs", 1, call_with(&none, 0, 0));
-    }
+    const struct asked asked[] = {{OLD_SEARCH, {f[0], f[1]}, {0}}, {CUT, {f[0], cut}, {1}}, {FIRST_REPLY, {f[2], f[1]}, {0}},
+                                  {CALL_LIST, {f[3]}, {0}}, {SECOND_REPLY, {f[2], f[1], f[4]}, {0}}, {JOIN, {f[5]}, {0}},
+                                  {OLD_SEARCH_GROUPED, {f[0], our_groups, f[1]}, {0}}, {FIRST_REPLY_GROUPED, {f[2], our_groups, f[1]}, {0}},
+                                  {SECOND_REPLY_GROUPED, {f[2], our_groups, f[1], f[4]}, {0}}, {DEAREST, {{NULL, 0}}, {2, 3, 4}}};
+    for (int c = 0; c < CALL_COUNT; c++)
+        test_room(&asked[c]);
 }
 
 /* The rows of the table of docs/CALLS.md. */
@@ -589,8 +598,9 @@ static void print_table(void)
 {
     for (int c = 0; c < CALL_COUNT; c++) {
         printf("| `%s` |", call_names[c]);
-        for (unsigned i = 1; i <= MOWQACHI_GROUPS; i++)
-            printf(numbers_given((enum call)c) >> i & 1 ? " %u |" : " |", i);
+        for (unsigned i = 1; i < NUMBERS; i++)
+            if (number_name(i) != NULL)
+                printf(numbers_given((enum call)c) >> i & 1 ? " %u |" : " |", i);
         printf("\n");
     }
 }
@@ -615,6 +625,7 @@ int main(int argc, char **argv)
     test_orders();
     test_dear_reply(8, 0, 3875);
     test_dear_reply(9, MOWQACHI_RESULT, 0);
+    test_counts(2, 0, MOWQACHI_PATH_LABELS, MOWQACHI_COUNTS);
     test_long_list(14, true, 0, 4096);
     test_long_list(15, true, MOWQACHI_RESULT, 0);
     test_long_list(14, false, MOWQACHI_DOOR, 0);

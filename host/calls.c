@@ -7,18 +7,23 @@
 #include "drafts.h"
 
 const char *const call_names[CALL_COUNT] = {"old_search", "cut", "first_reply", "call_list", "second_reply", "join",
-                                            "old_search_grouped", "first_reply_grouped", "second_reply_grouped"};
+                                            "old_search_grouped", "first_reply_grouped", "second_reply_grouped", "dearest"};
 const struct span our_groups = {(const uint8_t *)mowqachi_our_groups, sizeof mowqachi_our_groups};
 
 static unsigned given[CALL_COUNT];
-static uint8_t result[MOWQACHI_LIST_BYTES];
+static struct draft results[OUTPUTS];
 
-size_t output_bytes(enum call call)
+struct room room_for(enum call call)
 {
-    static const size_t bytes[CALL_COUNT] = {MOWQACHI_LIST_BYTES,  MOWQACHI_PART_BYTES,  MOWQACHI_REPLY_BYTES,
-                                             MOWQACHI_CALLS_BYTES, MOWQACHI_REPLY_BYTES, MOWQACHI_LIST_BYTES,
-                                             MOWQACHI_LIST_BYTES,  MOWQACHI_REPLY_BYTES, MOWQACHI_REPLY_BYTES};
-    return bytes[call];
+    static const size_t bytes[CALL_COUNT][OUTPUTS] = {
+        {MOWQACHI_LIST_BYTES}, {MOWQACHI_PART_BYTES}, {MOWQACHI_REPLY_BYTES}, {MOWQACHI_CALLS_BYTES}, {MOWQACHI_REPLY_BYTES},
+        {MOWQACHI_LIST_BYTES}, {MOWQACHI_LIST_BYTES}, {MOWQACHI_REPLY_BYTES}, {MOWQACHI_REPLY_BYTES}, {MOWQACHI_PART_BYTES, MOWQACHI_PATH_BYTES}};
+    return (struct room){{bytes[call][0], bytes[call][1]}, MOWQACHI_WORK_BYTES};
+}
+
+struct span result_of(int output)
+{
+    return span_of(&results[output]);
 }
 
 unsigned numbers_given(enum call call)
@@ -44,26 +49,31 @@ bool reads_path(enum call call)
 
 struct asked with_groups(const struct asked *a, struct span groups)
 {
-    return (struct asked){grouped(a->call), {a->in[0], groups, a->in[1], a->in[2]}, a->site};
+    return (struct asked){grouped(a->call), {a->in[0], groups, a->in[1], a->in[2]}, {a->values[0]}};
 }
 
-uint32_t invoke(const struct asked *a, uint8_t *out, size_t out_len, uint8_t *work, size_t work_len)
+uint32_t invoke(const struct asked *a, const struct buffers *b)
 {
-    const struct span x = a->in[0], y = a->in[1], z = a->in[2], t = a->in[3];
+    const struct span *x = &a->in[0], *y = &a->in[1], *z = &a->in[2], *t = &a->in[3];
+    const uint32_t *v = a->values;
+    uint8_t *out = b->out[0], *work = b->work;
+    size_t out_len = b->room.out[0], work_len = b->room.work;
     switch (a->call) {
-    case OLD_SEARCH: return mowqachi_old_search(x.bytes, x.len, y.bytes, y.len, out, out_len, work, work_len);
-    case CUT: return mowqachi_cut(x.bytes, x.len, y.bytes, y.len, a->site, out, out_len, work, work_len);
-    case FIRST_REPLY: return mowqachi_first_reply(x.bytes, x.len, y.bytes, y.len, out, out_len, work, work_len);
-    case CALL_LIST: return mowqachi_call_list(x.bytes, x.len, out, out_len, work, work_len);
+    case OLD_SEARCH: return mowqachi_old_search(x->bytes, x->len, y->bytes, y->len, out, out_len, work, work_len);
+    case CUT: return mowqachi_cut(x->bytes, x->len, y->bytes, y->len, v[0], out, out_len, work, work_len);
+    case FIRST_REPLY: return mowqachi_first_reply(x->bytes, x->len, y->bytes, y->len, out, out_len, work, work_len);
+    case CALL_LIST: return mowqachi_call_list(x->bytes, x->len, out, out_len, work, work_len);
     case SECOND_REPLY:
-        return mowqachi_second_reply(x.bytes, x.len, y.bytes, y.len, z.bytes, z.len, out, out_len, work, work_len);
-    case JOIN: return mowqachi_join(x.bytes, x.len, out, out_len, work, work_len);
+        return mowqachi_second_reply(x->bytes, x->len, y->bytes, y->len, z->bytes, z->len, out, out_len, work, work_len);
+    case JOIN: return mowqachi_join(x->bytes, x->len, out, out_len, work, work_len);
     case OLD_SEARCH_GROUPED:
-        return mowqachi_old_search_grouped(x.bytes, x.len, y.bytes, y.len, z.bytes, z.len, out, out_len, work, work_len);
+        return mowqachi_old_search_grouped(x->bytes, x->len, y->bytes, y->len, z->bytes, z->len, out, out_len, work, work_len);
     case FIRST_REPLY_GROUPED:
-        return mowqachi_first_reply_grouped(x.bytes, x.len, y.bytes, y.len, z.bytes, z.len, out, out_len, work, work_len);
+        return mowqachi_first_reply_grouped(x->bytes, x->len, y->bytes, y->len, z->bytes, z->len, out, out_len, work, work_len);
+    case SECOND_REPLY_GROUPED:
+        return mowqachi_second_reply_grouped(x->bytes, x->len, y->bytes, y->len, z->bytes, z->len, t->bytes, t->len, out, out_len, work, work_len);
     default:
-        return mowqachi_second_reply_grouped(x.bytes, x.len, y.bytes, y.len, z.bytes, z.len, t.bytes, t.len, out, out_len, work, work_len);
+        return mowqachi_dearest(v[0], v[1], v[2], out, out_len, b->out[1], b->room.out[1], work, work_len);
     }
 }
 
@@ -95,47 +105,68 @@ static bool zero_from(const uint8_t *bytes, size_t from, size_t len)
     return from >= len || (bytes[from] == 0 && memcmp(bytes + from, bytes + from + 1, len - from - 1) == 0);
 }
 
-static void check_left(enum call call, uint32_t number, const uint8_t *out, size_t out_len, const uint8_t *work, size_t work_len)
+/* Whether an output that must have `least` bytes holds what is due after this number: a file, which is kept, and zeros, or zeros alone. */
+static bool keep_result(struct draft *result, uint32_t number, const uint8_t *out, size_t len, size_t least)
 {
-    size_t kept = number == 0 ? mowqachi_file_bytes(out) : 0;
-    bool sized = number != 0 || (kept >= 4 && kept <= output_bytes(call));
-    if (number > MOWQACHI_GROUPS || !sized || !zero_from(out, kept, out_len) || !zero_from(work, 0, work_len)) {
+    if (number != 0)
+        return zero_from(out, 0, len);
+    size_t kept = mowqachi_file_bytes(out);
+    if (kept < 4 || kept > least || !zero_from(out, kept, len))
+        return false;
+    put_bytes(result, (struct span){out, kept});
+    return true;
+}
+
+static void check_left(enum call call, uint32_t number, const struct buffers *b)
+{
+    struct room least = room_for(call);
+    bool right = (number <= MOWQACHI_GROUPS || number == MOWQACHI_COUNTS) && zero_from(b->work, 0, b->room.work);
+    for (int k = 0; k < OUTPUTS; k++) {
+        results[k].len = 0;
+        if (least.out[k] > 0)
+            right = keep_result(&results[k], number, b->out[k], b->room.out[k], least.out[k]) && right;
+    }
+    if (!right) {
         printf("%s: wrong number or buffers after %u\n", call_names[call], (unsigned)number);
         exit(1);
     }
-    if (number == 0)
-        memcpy(result, out, kept);
 }
 
-uint32_t call_with(const struct asked *a, size_t out_len, size_t work_len)
+uint32_t call_with(const struct asked *a, struct room room)
 {
-    struct asked lent = {a->call, {lend_copy(a->in[0]), lend_copy(a->in[1]), lend_copy(a->in[2]), lend_copy(a->in[3])}, a->site};
-    uint8_t *out = lend(out_len, 0xa5), *work = lend(work_len, 0x5a);
-    uint32_t number = invoke(&lent, out, out_len, work, work_len);
-    check_left(a->call, number, out, out_len, work, work_len);
+    struct asked lent = *a;
+    for (int k = 0; k < INPUTS; k++)
+        lent.in[k] = lend_copy(a->in[k]);
+    struct buffers b = {{lend(room.out[0], 0xa5), lend(room.out[1], 0xa5)}, lend(room.work, 0x5a), room};
+    uint32_t number = invoke(&lent, &b);
+    check_left(a->call, number, &b);
     given[a->call] |= 1u << number;
     for (int k = 0; k < INPUTS; k++) {
         if (a->in[k].len > 0 && memcmp(lent.in[k].bytes, a->in[k].bytes, a->in[k].len) != 0)
             abort();
         give_back(lent.in[k].bytes);
     }
-    give_back(out);
-    give_back(work);
+    for (int k = 0; k < OUTPUTS; k++)
+        give_back(b.out[k]);
+    give_back(b.work);
     return number;
 }
 
 uint32_t call(const struct asked *a, struct span *found)
 {
-    uint32_t number = call_with(a, output_bytes(a->call), MOWQACHI_WORK_BYTES);
-    *found = (struct span){result, number == 0 ? mowqachi_file_bytes(result) : 0};
+    uint32_t number = call_with(a, room_for(a->call));
+    *found = result_of(0);
     return number;
 }
 
 bool leave_the_same(const struct asked *a, const struct asked *b)
 {
-    static uint8_t first[MOWQACHI_LIST_BYTES];
-    size_t out_len = draw_length(output_bytes(a->call)), work_len = draw_length(MOWQACHI_WORK_BYTES);
-    uint32_t number = call_with(a, out_len, work_len);
-    memcpy(first, result, sizeof first);
-    return call_with(b, out_len, work_len) == number && (number != 0 || memcmp(first, result, mowqachi_file_bytes(first)) == 0);
+    static struct draft first;
+    struct room room = room_for(a->call);
+    room.out[0] = draw_length(room.out[0]);
+    room.work = draw_length(room.work);
+    uint32_t number = call_with(a, room);
+    first.len = 0;
+    put_bytes(&first, result_of(0));
+    return call_with(b, room) == number && equal(&first, &results[0]);
 }

@@ -1,4 +1,4 @@
-/* The nine calls for tests: on exact copies of the inputs at odd addresses, into used buffers, and with a look at what is left. */
+/* The ten calls for tests: on exact copies of the inputs at odd addresses, into used buffers, and with a look at what is left. */
 #ifndef CALLS_H
 #define CALLS_H
 
@@ -7,31 +7,47 @@
 
 enum call {
     OLD_SEARCH, CUT, FIRST_REPLY, CALL_LIST, SECOND_REPLY, JOIN,
-    OLD_SEARCH_GROUPED, FIRST_REPLY_GROUPED, SECOND_REPLY_GROUPED, CALL_COUNT
+    OLD_SEARCH_GROUPED, FIRST_REPLY_GROUPED, SECOND_REPLY_GROUPED, DEAREST, CALL_COUNT
 };
-enum { INPUTS = 4 };
+/* All numbers are below NUMBERS. */
+enum { INPUTS = 4, VALUES = 3, OUTPUTS = 2, NUMBERS = MOWQACHI_COUNTS + 1 };
 
-/* The inputs of a call in its order; those that it has not are empty. */
+/* The inputs of a call in its order; those that it has not are empty. Then what it takes by value: the site asked; or doors, outside targets and
+   labels. */
 struct asked {
     enum call call;
     struct span in[INPUTS];
-    uint32_t site;
+    uint32_t values[VALUES];
+};
+
+/* The bytes of a call's buffers; none of an output that it has not. */
+struct room {
+    size_t out[OUTPUTS], work;
+};
+
+/* The buffers that a call is handed. */
+struct buffers {
+    uint8_t *out[OUTPUTS], *work;
+    struct room room;
 };
 
 extern const char *const call_names[CALL_COUNT];
 extern const struct span our_groups;
-size_t output_bytes(enum call call);
+/* What a call asks for, at least. */
+struct room room_for(enum call call);
 /* Whether a call reads a path by our groups. */
 bool reads_path(enum call call);
 /* Such a call asked with groups. */
 struct asked with_groups(const struct asked *a, struct span groups);
 /* The call itself. */
-uint32_t invoke(const struct asked *a, uint8_t *out, size_t out_len, uint8_t *work, size_t work_len);
+uint32_t invoke(const struct asked *a, const struct buffers *b);
 /* The call with buffers of these lengths; stops the program where it leaves anything but what mowqachi.h says. */
-uint32_t call_with(const struct asked *a, size_t out_len, size_t work_len);
+uint32_t call_with(const struct asked *a, struct room room);
 /* The same with buffers that are just long enough. The result, until the next call. */
 uint32_t call(const struct asked *a, struct span *result);
-/* Whether two calls leave the same, number and both buffers, whose lengths are drawn and may be too short. */
+/* The last call's result in an output, until the next call; empty after a refusal, and of an output that it has not. */
+struct span result_of(int output);
+/* Whether two calls of one output leave the same, number and both buffers, whose lengths are drawn and may be too short. */
 bool leave_the_same(const struct asked *a, const struct asked *b);
 /* The numbers that a call has given so far, as bits. */
 unsigned numbers_given(enum call call);

@@ -194,7 +194,7 @@ const char *number_name(unsigned number)
 {
     static const char *const names[] = {
         "ACCEPTED", "BUFFER", "SIZE", "HEADER", "LENGTH", "WORD", "ORDER", "ROOT",
-        "TARGET", "OPERAND", "STATE", "CUT", "BUNDLE", "TWICE", "DOOR", "RESULT", "GROUPS"};
+        "TARGET", "OPERAND", "STATE", "CUT", "BUNDLE", "TWICE", "DOOR", "RESULT", "GROUPS", [MOWQACHI_COUNTS] = "COUNTS"};
     return names[number];
 }
 

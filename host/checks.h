@@ -16,7 +16,7 @@ struct verdict {
 
 /* The name of the kind of file with this header kind, or NULL where there is none. */
 const char *file_name(unsigned kind);
-/* The name of a number, as in mowqachi.h. */
+/* The name of a number, as in mowqachi.h; NULL for those below the greatest that it has not. */
 const char *number_name(unsigned number);
 
 /* A file by itself: 2, 3, 4, then word by word and at its end. */

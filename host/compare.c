@@ -11,7 +11,7 @@
 enum { WRITTEN_EVERY = 1000, GROUPED_EVERY = 4 };
 
 /* The kinds of the calls' results: the inspector must accept what the library writes. */
-static const unsigned result_kinds[CALL_COUNT] = {LIST, PART, FIRST, CALLS, SECOND, LIST, LIST, FIRST, SECOND};
+static const unsigned result_kinds[CALL_COUNT] = {LIST, PART, FIRST, CALLS, SECOND, LIST, LIST, FIRST, SECOND, PART};
 
 const char *const options[SUBJECTS] = {"--part", "--whole", "--path", "--calls", "--firsts", "--seconds", "--cut", "--groups", "--asked"};
 
@@ -23,7 +23,7 @@ struct input {
 static struct input inputs[MOST_FILES];
 static const char *directory;
 static FILE *list;
-static size_t numbers[SUBJECTS][MOWQACHI_GROUPS + 1], written;
+static size_t numbers[SUBJECTS][NUMBERS], written;
 
 void write_into(const char *name)
 {
@@ -39,7 +39,7 @@ void print_compared(void)
 {
     for (int k = 0; k < SUBJECTS; k++) {
         printf("%-9s ", options[k]);
-        for (unsigned i = 0; i <= MOWQACHI_GROUPS; i++)
+        for (unsigned i = 0; i < NUMBERS; i++)
             if (numbers[k][i] > 0)
                 printf(" %u: %zu", i, numbers[k][i]);
         printf("\n");
@@ -173,9 +173,9 @@ static struct span no_calls(unsigned n)
 /* The calls that read a path. */
 static int calls_for_path(struct span path, struct asked asked[3])
 {
-    asked[0] = (struct asked){FIRST_REPLY, {lone_part, path}, 0};
-    asked[1] = (struct asked){OLD_SEARCH, {lone_root, path}, 0};
-    asked[2] = (struct asked){SECOND_REPLY, {lone_part, path, no_calls(n_in(path))}, 0};
+    asked[0] = (struct asked){FIRST_REPLY, {lone_part, path}, {0}};
+    asked[1] = (struct asked){OLD_SEARCH, {lone_root, path}, {0}};
+    asked[2] = (struct asked){SECOND_REPLY, {lone_part, path, no_calls(n_in(path))}, {0}};
     return 3;
 }
 
@@ -194,20 +194,20 @@ static int calls_for(const struct sample *s, struct asked asked[3])
     struct span a = input(0), b = input(1), c = input(2);
     switch (s->subject) {
     case AS_PART:
-        asked[0] = (struct asked){FIRST_REPLY, {a, path_of(0)}, 0};
-        asked[1] = (struct asked){SECOND_REPLY, {a, path_of(0), no_calls(0)}, 0};
+        asked[0] = (struct asked){FIRST_REPLY, {a, path_of(0)}, {0}};
+        asked[1] = (struct asked){SECOND_REPLY, {a, path_of(0), no_calls(0)}, {0}};
         return 2;
     case AS_WHOLE:
-        asked[0] = (struct asked){OLD_SEARCH, {a, path_of(0)}, 0};
-        asked[1] = (struct asked){CUT, {a, no_cut(a)}, 0};
+        asked[0] = (struct asked){OLD_SEARCH, {a, path_of(0)}, {0}};
+        asked[1] = (struct asked){CUT, {a, no_cut(a)}, {0}};
         return 2;
     case AS_PATH: return calls_for_path(a, asked);
     case AS_GROUPS: return calls_for_groups(a, b, asked);
-    case AS_CALLS: asked[0] = (struct asked){SECOND_REPLY, {lone_part, path_of(n_in(a)), a}, 0}; return 1;
-    case AS_FIRSTS: asked[0] = (struct asked){CALL_LIST, {a}, 0}; return 1;
-    case AS_SECONDS: asked[0] = (struct asked){JOIN, {a}, 0}; return 1;
-    case AS_CUT: asked[0] = (struct asked){CUT, {a, b}, s->site}; return 1;
-    default: asked[0] = (struct asked){s->files == MOST_FILES ? SECOND_REPLY_GROUPED : SECOND_REPLY, {a, b, c, input(3)}, 0}; return 1;
+    case AS_CALLS: asked[0] = (struct asked){SECOND_REPLY, {lone_part, path_of(n_in(a)), a}, {0}}; return 1;
+    case AS_FIRSTS: asked[0] = (struct asked){CALL_LIST, {a}, {0}}; return 1;
+    case AS_SECONDS: asked[0] = (struct asked){JOIN, {a}, {0}}; return 1;
+    case AS_CUT: asked[0] = (struct asked){CUT, {a, b}, {s->site}}; return 1;
+    default: asked[0] = (struct asked){s->files == MOST_FILES ? SECOND_REPLY_GROUPED : SECOND_REPLY, {a, b, c, input(3)}, {0}}; return 1;
     }
 }
 

@@ -206,21 +206,21 @@ void print_expression(struct span path)
 
 void print_counts(struct span part)
 {
-    struct nodes own, met = {{0}};
-    size_t nodes = 0, doors = 0, stopped = 0, edges = 0, outside = 0;
-    collect(&own, part, NODE);
-    for (size_t i = 1; i < words_of(part); i++) {
-        uint32_t w = word_at(part, i);
-        nodes += kind_of(w) == NODE;
-        doors += kind_of(w) == NODE && door_bit(w);
-        stopped += kind_of(w) == NODE && stopped_bit(w);
-        edges += kind_of(w) == EDGE;
-        if (kind_of(w) == EDGE && !has_node(&own, node_of(w)) && !has_node(&met, node_of(w))) {
-            add_node(&met, node_of(w));
-            outside++;
-        }
-    }
-    printf("nodes %zu, doors %zu, stopped %zu, edges %zu, outside targets %zu\n", nodes, doors, stopped, edges, outside);
+    struct tally tally = tally_of(part);
+    printf("nodes %zu, doors %zu, stopped %zu, edges %zu, outside targets %zu\n",
+           tally.nodes, tally.doors, tally.stopped, tally.edges, tally.outside);
+}
+
+void print_longest(struct span part, struct span path)
+{
+    struct tally tally = tally_of(part);
+    unsigned n = n_of(word_at(path, 0));
+    size_t words = longest_reply(&tally, n);
+    printf("doors %zu, outside targets %zu, labels %u: a first reply has at most %zu word%s",
+           tally.doors, tally.outside, n, words, words == 1 ? "" : "s");
+    if (words > MOWQACHI_REPLY_WORDS)
+        printf(", over %d", MOWQACHI_REPLY_WORDS);
+    printf("\n");
 }
 
 /* The words that call a pair, from the root's door word on. */

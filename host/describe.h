@@ -23,6 +23,8 @@ void print_verdict(struct verdict v, const char *unit, size_t count);
 void print_expression(struct span path);
 /* What an accepted part has. */
 void print_counts(struct span part);
+/* How long a first reply to an accepted path can be, of an accepted part or any other with as many doors and outside targets. */
+void print_longest(struct span part, struct span path);
 /* The words by which a bundle calls a node that is no door, the fewest; where it calls none, how many reach words name one. */
 void print_strays(struct span bundle, const struct calls *calls);
 /* An accepted part as a Graphviz picture. */

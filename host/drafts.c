@@ -1,5 +1,7 @@
 #include "drafts.h"
 
+#include <string.h>
+
 uint32_t draw(uint32_t below)
 {
     static uint32_t state = 2463534242u;
@@ -36,6 +38,13 @@ void put(struct draft *d, uint32_t w)
         d->bytes[d->len++] = (uint8_t)(w >> 8 * k);
 }
 
+void put_bytes(struct draft *d, struct span s)
+{
+    if (s.len > 0)
+        memcpy(d->bytes + d->len, s.bytes, s.len);
+    d->len += s.len;
+}
+
 void end_file(struct draft *d, size_t from, uint32_t header)
 {
     size_t end = d->len;
@@ -47,4 +56,9 @@ void end_file(struct draft *d, size_t from, uint32_t header)
 struct span span_of(const struct draft *d)
 {
     return (struct span){d->bytes, d->len};
+}
+
+bool equal(const struct draft *a, const struct draft *b)
+{
+    return a->len == b->len && memcmp(a->bytes, b->bytes, a->len) == 0;
 }

@@ -18,8 +18,10 @@ void draw_order(uint32_t *order, uint32_t count);
 size_t draw_length(size_t least);
 
 void put(struct draft *d, uint32_t w);
+void put_bytes(struct draft *d, struct span s);
 /* Ends the file that begins at byte `from`, where room was left for its header. */
 void end_file(struct draft *d, size_t from, uint32_t header);
 struct span span_of(const struct draft *d);
+bool equal(const struct draft *a, const struct draft *b);
 
 #endif

@@ -54,7 +54,7 @@ static struct draft with_ranges(void)
 static void compare(enum call name, struct span calls)
 {
     struct draft ranges = with_ranges();
-    struct asked plain = {name, {span_of(&plant), span_of(&path), calls}, 0}, ranged = {name, {span_of(&plant), span_of(&ranges), calls}, 0};
+    struct asked plain = {name, {span_of(&plant), span_of(&path), calls}, {0}}, ranged = {name, {span_of(&plant), span_of(&ranges), calls}, {0}};
     struct asked ours = with_groups(&plain, our_groups), own = with_groups(&plain, span_of(&groups));
     if (!leave_the_same(&plain, &ours))
         fail(call_names[plain.call]);

@@ -39,7 +39,7 @@ static void draw_question(uint32_t sites)
 
 static void must_refuse(enum call name, const struct draft *x, struct span y, uint32_t number)
 {
-    struct asked asked = {name, {span_of(x), y}, 0};
+    struct asked asked = {name, {span_of(x), y}, {0}};
     struct span found;
     if (call(&asked, &found) != number)
         fail(call_names[name]);

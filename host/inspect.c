@@ -18,6 +18,7 @@ static const char usage[] =
     "       inspect [--hex] --groups GROUPS [PATH] eight words for the groups; a path with these groups\n"
     "       inspect [--hex] --asked PART [GROUPS] PATH LIST\n"
     "                                              a call list beside the part and path of the site asked\n"
+    "       inspect [--hex] --longest PART PATH    how long a first reply can be, by doors, outside targets and labels\n"
     "       inspect [--hex] --dot FILE             a part as a Graphviz picture\n"
     "AS tells what the file should be; without it the header tells:\n"
     "       --part --whole --path --calls --list   one file\n"
@@ -219,6 +220,17 @@ static unsigned as_asked(const struct span *in)
     return report_beside(list, v.number != 0 ? v : check_against(part, path, list), &(struct beside){.part = part, .groups = groups});
 }
 
+static unsigned as_longest(const struct span *in)
+{
+    struct verdict part = check_file(in[0], PART), path = check_file(in[1], PATH);
+    if (part.number != 0)
+        return report(in[0], part);
+    if (path.number != 0)
+        return report(in[1], path);
+    print_longest(in[0], in[1]);
+    return 0;
+}
+
 /* What an option asks for, and how many files it takes; those that are not given are NULL. */
 static const struct mode {
     const char *option;
@@ -227,7 +239,7 @@ static const struct mode {
 } modes[] = {
     {"--part", 1, 1, as_part}, {"--whole", 1, 1, as_whole}, {"--path", 1, 1, as_path}, {"--calls", 1, 1, as_calls}, {"--list", 1, 1, as_list},
     {"--firsts", 1, 1, as_firsts}, {"--seconds", 1, 1, as_seconds}, {"--files", 1, 1, as_files}, {"--dot", 1, 1, as_picture},
-    {"--cut", 2, 2, as_cut}, {"--groups", 1, 2, as_groups}, {"--asked", 3, MOST_FILES, as_asked},
+    {"--cut", 2, 2, as_cut}, {"--groups", 1, 2, as_groups}, {"--asked", 3, MOST_FILES, as_asked}, {"--longest", 2, 2, as_longest},
 };
 
 static struct mode mode_of(const char *option)

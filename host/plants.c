@@ -2,7 +2,6 @@
 
 #include <stdio.h>
 #include <stdlib.h>
-#include <string.h>
 
 enum { FURTHER = 2 };   /* targets of a part that are no nodes of it */
 
@@ -29,11 +28,6 @@ _Noreturn void fail(const char *what)
     exit(1);
 }
 
-bool equal(const struct draft *a, const struct draft *b)
-{
-    return a->len == b->len && memcmp(a->bytes, b->bytes, a->len) == 0;
-}
-
 void must_be(const char *what, struct draft expected, struct draft got)
 {
     if (equal(&expected, &got))
@@ -49,14 +43,13 @@ static void append(struct draft *to, struct asked asked)
     struct span found;
     if (call(&asked, &found) != MOWQACHI_ACCEPTED)
         fail(call_names[asked.call]);
-    memcpy(to->bytes + to->len, found.bytes, found.len);
-    to->len += found.len;
+    put_bytes(to, found);
 }
 
 struct draft written(enum call name, const struct draft *x, struct span y, struct span z)
 {
     struct draft d = {.len = 0};
-    append(&d, (struct asked){name, {span_of(x), y, z}, 0});
+    append(&d, (struct asked){name, {span_of(x), y, z}, {0}});
     return d;
 }
 
@@ -112,7 +105,7 @@ void cut_up(const struct draft *whole, struct span cuts, struct draft *parts, ui
 {
     for (uint32_t s = 0; s < sites; s++) {
         parts[s].len = 0;
-        append(&parts[s], (struct asked){CUT, {span_of(whole), cuts}, s});
+        append(&parts[s], (struct asked){CUT, {span_of(whole), cuts}, {s}});
     }
 }
 
@@ -174,7 +167,7 @@ struct draft replies(const struct question *q, enum call trip, struct span calls
     uint32_t order[MOWQACHI_SITES];
     draw_order(order, q->sites);
     for (uint32_t k = 0; k < q->sites; k++) {
-        struct asked plain = {trip, {span_of(&q->parts[order[k]]), q->path, calls}, 0};
+        struct asked plain = {trip, {span_of(&q->parts[order[k]]), q->path, calls}, {0}};
         append(&bundle, q->groups.len > 0 ? with_groups(&plain, q->groups) : plain);
     }
     return bundle;

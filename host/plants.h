@@ -48,7 +48,6 @@ struct question {
 /* The sites' replies of one trip in an order that is drawn: a bundle. */
 struct draft replies(const struct question *q, enum call trip, struct span calls);
 struct draft joined(const struct question *q);
-bool equal(const struct draft *a, const struct draft *b);
 _Noreturn void fail(const char *what);
 void must_be(const char *what, struct draft expected, struct draft got);
 

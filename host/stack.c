@@ -20,7 +20,7 @@ struct job {
     uint32_t expected, number;
     size_t depth;
     uint8_t *low;       /* of the stack */
-    uint8_t *out, *work;
+    struct buffers buffers;
     pthread_t thread;
 };
 
@@ -153,7 +153,7 @@ static void fill_words(struct draft *f, uint32_t header, uint32_t first)
 /* A call, and where it reads a path also the one with groups. */
 static void add(enum call call, uint32_t expected, struct span a, struct span b, struct span c)
 {
-    struct asked asked = {call, {a, b, c}, 0};
+    struct asked asked = {call, {a, b, c}, {0}};
     jobs[job_count++] = (struct job){.asked = asked, .expected = expected};
     if (reads_path(call))
         jobs[job_count++] = (struct job){.asked = with_groups(&asked, our_groups), .expected = expected};
@@ -210,6 +210,20 @@ static void add_bundles(void)
     add(JOIN, 0, span_of(&answers), none, none);
 }
 
+static void add_dearest(uint32_t expected, uint32_t doors, uint32_t targets)
+{
+    jobs[job_count++] = (struct job){.asked = {DEAREST, {{NULL, 0}}, {doors, targets, MOWQACHI_PATH_LABELS}}, .expected = expected};
+}
+
+/* Parts of 4,096 words, or one less, and one that would have one more. */
+static void add_counts(void)
+{
+    add_dearest(0, 1, 4094);
+    add_dearest(0, 63, 64);
+    add_dearest(0, 2047, 1);
+    add_dearest(MOWQACHI_COUNTS, 2048, 1);
+}
+
 /* Paints the stack below this frame, makes the call, and looks for the deepest byte that changed. */
 static void *run(void *argument)
 {
@@ -218,7 +232,7 @@ static void *run(void *argument)
     __asm__ volatile("mov %%rsp, %0" : "=r"(here));
     for (volatile uint8_t *p = job->low; p < here - RED_ZONE; p++)
         *p = PAINT;
-    job->number = invoke(&job->asked, job->out, output_bytes(job->asked.call), job->work, MOWQACHI_WORK_BYTES);
+    job->number = invoke(&job->asked, &job->buffers);
     const volatile uint8_t *p = job->low;
     while (p < here && *p == PAINT)
         p++;
@@ -233,8 +247,10 @@ static void start(struct job *job)
     if (block == MAP_FAILED || mprotect(block, GUARD, PROT_NONE) != 0)
         fail("no stack");
     job->low = block + GUARD;
-    job->out = get(output_bytes(job->asked.call));
-    job->work = get(MOWQACHI_WORK_BYTES);
+    job->buffers.room = room_for(job->asked.call);
+    for (int k = 0; k < OUTPUTS && job->buffers.room.out[k] > 0; k++)
+        job->buffers.out[k] = get(job->buffers.room.out[k]);
+    job->buffers.work = get(job->buffers.room.work);
     if (pthread_attr_init(&attributes) != 0 || pthread_attr_setstack(&attributes, job->low, STACK) != 0 ||
         pthread_create(&job->thread, &attributes, run, job) != 0)
         fail("no thread");
@@ -251,7 +267,7 @@ static void finish(struct job *job)
         printf("%s: %zu bytes: ", call_names[job->asked.call], job->depth);
         fail("more stack than docs/CALLS.md says");
     }
-    free(job->work);
+    free(job->buffers.work);
 }
 
 static void report(void)
@@ -265,11 +281,24 @@ static void report(void)
     }
 }
 
+/* Whether two runs of a call left the same outputs, which are given back. */
+static bool same_outputs(struct job *a, struct job *b)
+{
+    bool same = true;
+    for (int k = 0; k < OUTPUTS && a->buffers.room.out[k] > 0; k++) {
+        same = same && memcmp(a->buffers.out[k], b->buffers.out[k], a->buffers.room.out[k]) == 0;
+        free(a->buffers.out[k]);
+        free(b->buffers.out[k]);
+    }
+    return same;
+}
+
 int main(void)
 {
     static struct job again[MOST_JOBS];
     add_searches();
     add_bundles();
+    add_counts();
     for (int k = 0; k < job_count; k++) {
         start(&jobs[k]);
         finish(&jobs[k]);
@@ -280,10 +309,8 @@ int main(void)
         start(&again[k]);
     for (int k = 0; k < job_count; k++) {
         finish(&again[k]);
-        if (memcmp(again[k].out, jobs[k].out, output_bytes(jobs[k].asked.call)) != 0)
+        if (!same_outputs(&again[k], &jobs[k]))
             fail("another output in a call beside others");
-        free(again[k].out);
-        free(jobs[k].out);
     }
     printf("%d calls at once: the same outputs\n", job_count);
     return 0;

@@ -176,13 +176,13 @@ static bool has_stray(const struct calls *calls)
 }
 
 /* How often each number was given, and 0 with a reach word to no door. */
-static long given[MOWQACHI_GROUPS + 1], unfollowed;
+static long given[NUMBERS], unfollowed;
 
 /* The number of the bundle's call. */
 static uint32_t check(void)
 {
     static struct calls calls;
-    struct asked asked = {CALL_LIST, {span_of(&bundle)}, 0};
+    struct asked asked = {CALL_LIST, {span_of(&bundle)}, {0}};
     struct span found;
     find_calls(span_of(&bundle), &calls);
     struct draft expected = list_of(&calls);

@@ -76,3 +76,28 @@ void collect(struct nodes *set, struct span s, unsigned kind)
         if (kind_of(word_at(s, i)) == kind)
             add_node(set, node_of(word_at(s, i)));
 }
+
+struct tally tally_of(struct span part)
+{
+    struct tally tally = {0};
+    struct nodes met;
+    collect(&met, part, NODE);
+    for (size_t i = 1; i < words_of(part); i++) {
+        uint32_t w = word_at(part, i);
+        bool node = kind_of(w) == NODE;
+        tally.nodes += node;
+        tally.doors += node && door_bit(w);
+        tally.stopped += node && stopped_bit(w);
+        tally.edges += !node;
+        tally.outside += !node && !has_node(&met, node_of(w));
+        add_node(&met, node_of(w));
+    }
+    return tally;
+}
+
+/* A door has its word and, in each of n + 1 states, a row of all targets in the states 1 to n. There is no row without reach words. */
+size_t longest_reply(const struct tally *part, unsigned n)
+{
+    size_t pairs = part->outside * n;
+    return 1 + part->doors * (1 + (pairs == 0 ? 0 : (n + 1) * (1 + pairs)));
+}

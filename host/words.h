@@ -59,4 +59,12 @@ bool has_node(const struct nodes *set, unsigned x);
 /* The nodes of the words of one kind. */
 void collect(struct nodes *set, struct span s, unsigned kind);
 
+/* How many an accepted part has: doors with those that are stopped, and each outside target once. */
+struct tally {
+    size_t nodes, doors, stopped, edges, outside;
+};
+struct tally tally_of(struct span part);
+/* The words of a first reply, at most: of any part with so many doors and outside targets, and any path of n labels. */
+size_t longest_reply(const struct tally *part, unsigned n);
+
 #endif

@@ -1,19 +1,20 @@
 /* The split link search, for a C11 or C++ host. docs/CALLS.md tells which call belongs where, docs/FORMATS.md what every file, trip and
    number is: document 01, and of document 02 the requests 1, labels outside a range, 3, groups of the caller's own, 5, links that nobody walks,
-   7, stopped nodes, and 9, eight operands waiting.
+   7, stopped nodes, 9, eight operands waiting, and 13, the dearest reply.
 
-   Buffers. A length is in bytes. Any alignment will do. Inputs are only read, and may overlap one another. The output and the working
-   buffer overlap nothing: neither each other nor an input. A pointer is never null: where a length is 0, pass the address of any object.
-   What output and working buffer hold before a call does not matter. Longer ones than asked for are fine, of any length. During a call no
+   Buffers. A length is in bytes. Any alignment will do. Inputs are only read, and may overlap one another. The output, or each of two, and the
+   working buffer overlap nothing: neither one another nor an input. A pointer is never null: where a length is 0, pass the address of any object.
+   What outputs and working buffer hold before a call does not matter. Longer ones than asked for are fine, of any length. During a call no
    other thread changes its inputs or touches its other buffers.
 
    After a call. At 0 the output begins with the result, a file whose first word tells its length (mowqachi_file_bytes), and is zero past
-   it. At any other number it is zero from end to end. The working buffer is zero after every call, to its full length.
+   it; of two outputs each does. At any other number it is zero from end to end, and so are both of two. The working buffer is zero after every
+   call, to its full length.
 
-   Order of checks: 1; then the inputs in the order of the parameters; then 15. In one input 2, 3, 4, then word by word 5, 10, 6, 7, 9,
-   then at its end 5, 7, 8, 9. A cut list has only 11, and so has the site asked, after it. Groups have only 16. In a bundle 2, then file by
-   file as above, then over all files 12, 7, 13, and 14 once it is known which pairs are called, however many. A call list by itself, then 12
-   against the path and 14 against the part. The first check that fails gives the number.
+   Order of checks: 1, of any buffer; then the inputs in the order of the parameters; then 15. In one input 2, 3, 4, then word by word 5, 10, 6,
+   7, 9, then at its end 5, 7, 8, 9. A cut list has only 11, and so has the site asked, after it. Groups have only 16, and counts only 21. In a
+   bundle 2, then file by file as above, then over all files 12, 7, 13, and 14 once it is known which pairs are called, however many. A call list by
+   itself, then 12 against the path and 14 against the part. The first check that fails gives the number.
 
    Labels outside a range. A path's label word of sort 2 (bits 27..24) has a range's fields, the high end in 23..12 and the low end in 11..0,
    and holds the labels below the low end and those above the high one: any label but 5 is 0x52005005. The low end is not above the high one.
@@ -50,7 +51,8 @@ extern "C" {
 #define MOWQACHI_LIST_WORDS 8192   /* final lists */
 
 /* The bytes of an output, at least. */
-#define MOWQACHI_PART_BYTES 16384  /* mowqachi_cut */
+#define MOWQACHI_PART_BYTES 16384  /* mowqachi_cut; the part of mowqachi_dearest */
+#define MOWQACHI_PATH_BYTES 256    /* the path of mowqachi_dearest */
 #define MOWQACHI_REPLY_BYTES 16384 /* mowqachi_first_reply, mowqachi_second_reply, and with groups */
 #define MOWQACHI_CALLS_BYTES 16384 /* mowqachi_call_list */
 #define MOWQACHI_LIST_BYTES 32768  /* mowqachi_old_search, and with groups; mowqachi_join */
@@ -75,7 +77,7 @@ extern "C" {
 /* What a call gives. */
 enum mowqachi_number {
     MOWQACHI_ACCEPTED = 0,
-    MOWQACHI_BUFFER = 1,   /* output or working buffer too short */
+    MOWQACHI_BUFFER = 1,   /* an output or the working buffer too short */
     MOWQACHI_SIZE = 2,     /* no words, over the limit, or bytes not in fours */
     MOWQACHI_HEADER = 3,   /* header of another kind, or with a zero bit set */
     MOWQACHI_LENGTH = 4,   /* header's length wrong; in a bundle 0, over 4,096 or past the end */
@@ -90,7 +92,8 @@ enum mowqachi_number {
     MOWQACHI_TWICE = 13,   /* a door or answer node in two files */
     MOWQACHI_DOOR = 14,    /* a pair of the call list's least set has a node that is no door of the bundle; a called node of the part is no door */
     MOWQACHI_RESULT = 15,  /* result over its limit */
-    MOWQACHI_GROUPS = 16   /* groups not just eight words, or with a word that is no range or has its low end above its high end */
+    MOWQACHI_GROUPS = 16,  /* groups not just eight words, or with a word that is no range or has its low end above its high end */
+    MOWQACHI_COUNTS = 21   /* a count that is 0, over 15 labels, doors and targets over 65,536, or a part over 4,096 words */
 };
 
 /* Our eight groups, as words: 0x50000000 + high end * 4,096 + low end. In the memory of x86-64 they are the bytes that a call takes. */
@@ -153,6 +156,15 @@ uint32_t mowqachi_first_reply_grouped(const uint8_t *part, size_t part_len, cons
 uint32_t mowqachi_second_reply_grouped(const uint8_t *part, size_t part_len, const uint8_t *groups, size_t groups_len,
                                        const uint8_t *path, size_t path_len, const uint8_t *calls, size_t calls_len,
                                        uint8_t *out, size_t out_len, uint8_t *work, size_t work_len);
+
+/* For planners: the dearest part and path of so many doors, outside targets and labels. The part is of site 0 and without root; its nodes 0 to
+   doors - 1 are doors, each with a link of label 0 to each of the `targets` nodes after them: 1 + doors * (1 + targets) words. The path is a star of
+   an or of `labels` full ranges, each or right behind its second range: 2 * labels + 1 words. Their first reply has
+   1 + doors * (1 + (labels + 1) * (1 + targets * labels)) words, or is refused with 15 where that is over 4,096; and no part with so many doors and
+   outside targets has a longer one, for any path of so many labels and any groups. Nothing wraps, whatever the three are.
+   Outputs: MOWQACHI_PART_BYTES and MOWQACHI_PATH_BYTES. */
+uint32_t mowqachi_dearest(uint32_t doors, uint32_t targets, uint32_t labels,
+                          uint8_t *part, size_t part_len, uint8_t *path, size_t path_len, uint8_t *work, size_t work_len);
 
 #ifdef __cplusplus
 }

@@ -3,6 +3,7 @@ mod bundles;
 mod parts;
 mod paths;
 
+use crate::plain::{dear_part, dear_path};
 use crate::words::{bytes, OURS};
 use parts::Doors;
 
@@ -16,6 +17,8 @@ pub struct Ask {
     pub cuts: Vec<u8>,
     pub site: u32,
     pub calls: Vec<u8>,
+    /// Doors, outside targets and labels of the dearest files.
+    pub counts: [u32; 3],
     /// What the call must answer.
     pub number: u32,
 }
@@ -104,6 +107,9 @@ pub fn first_reply() -> Vec<Shape> {
             ..search(parts::doorways(n), paths::full_ranges())
         }),
         first_reply_of_groups(),
+        shape("the dearest files, one target, one label, a reply of so many words", |n| {
+            search(dear_part((n as u32 - 1) / 5, 1), dear_path(1))
+        }),
     ]
 }
 
@@ -170,5 +176,22 @@ pub fn join() -> Vec<Shape> {
         shape("16 files by turns", |n| bundle(bundles::answers(n, 16, 1))),
         shape("16 files, far apart", |n| bundle(bundles::answers(n, 16, 8))),
         shape("two files", |n| bundle(bundles::answers(n, 2, 1))),
+    ]
+}
+
+fn counting(doors: u32, targets: u32, labels: u32) -> Ask {
+    Ask { counts: [doors, targets, labels], ..Ask::default() }
+}
+
+pub fn dearest() -> Vec<Shape> {
+    vec![
+        shape("as many doors as targets", |n| {
+            let doors = (1..n as u32).take_while(|d| d * d < n as u32).last().unwrap_or(1);
+            counting(doors, (n as u32 - 1) / doors - 1, 15)
+        }),
+        shape("one door", |n| counting(1, n as u32 - 2, 15)),
+        shape("one target", |n| counting((n as u32 - 1) / 2, 1, 15)),
+        shape("one door, one target, one label, at any size", |_| counting(1, 1, 1)),
+        shape("a part of over 4,096 words (21)", |n| Ask { number: 21, ..counting(4096, n as u32, 15) }),
     ]
 }

@@ -6,20 +6,32 @@ pub type Outcome = Result<Vec<u32>, u32>;
 
 /// Runs a call whose result has at most `limit` words, and leaves its outcome in the buffers.
 pub fn settle(limit: usize, out: &mut [u8], work: &mut [u8], call: impl FnOnce() -> Outcome) -> u32 {
-    let room = out.len() / 4 >= limit && work.len() >= 32_768;
+    settle_each([limit], [out], work, || call().map(|words| [words]))
+}
+
+/// The same of a call with several results, each with an output of its own.
+pub fn settle_each<const N: usize>(
+    limits: [usize; N],
+    outs: [&mut [u8]; N],
+    work: &mut [u8],
+    call: impl FnOnce() -> Result<[Vec<u32>; N], u32>,
+) -> u32 {
+    let room = outs.iter().zip(limits).all(|(out, limit)| out.len() / 4 >= limit) && work.len() >= 32_768;
     let outcome = if room { call() } else { Err(1) };
     work.fill(0);
     match outcome {
-        Ok(words) => {
-            let (result, rest) = out.split_at_mut(4 * words.len());
-            for (b, w) in result.chunks_exact_mut(4).zip(&words) {
-                b.copy_from_slice(&w.to_le_bytes());
+        Ok(results) => {
+            for (out, words) in outs.into_iter().zip(results) {
+                let (result, rest) = out.split_at_mut(4 * words.len());
+                for (b, w) in result.chunks_exact_mut(4).zip(&words) {
+                    b.copy_from_slice(&w.to_le_bytes());
+                }
+                rest.fill(0);
             }
-            rest.fill(0);
             0
         }
         Err(number) => {
-            out.fill(0);
+            outs.into_iter().for_each(|out| out.fill(0));
             number
         }
     }

@@ -1,8 +1,9 @@
 //! One call, made to the library in guarded buffers and given to the evaluation, and the two compared.
 
 use crate::calls;
+use crate::evaluation::dearest::{Counts, Rooms};
 use crate::evaluation::words::*;
-use crate::evaluation::{self, Outcome, Room};
+use crate::evaluation::{self, BothFiles, Outcome, Room};
 use crate::random::Random;
 
 /// A call that reads a path is made with groups or without.
@@ -16,21 +17,53 @@ pub enum Call {
     Join { bundle: Vec<u8> },
 }
 
-/// What a call leaves.
+/// What a call leaves: in its outputs, and last in its working buffer.
 #[derive(PartialEq, Eq, Debug)]
 pub struct Left {
     pub number: u32,
-    out: Vec<u8>,
-    work: Vec<u8>,
+    pub buffers: Vec<Vec<u8>>,
 }
 
 impl Left {
-    fn owed(outcome: &Outcome, room: Room) -> Left {
-        let (number, words) = answer(outcome);
-        let mut out = bytes_of(&words);
-        out.resize(room.out, 0);
-        Left { number, out, work: vec![0; room.work] }
+    /// With a file in each of the first buffers, and zeros past it and in the others.
+    pub fn owed(number: u32, files: &[Vec<u32>], lengths: &[usize]) -> Left {
+        let left = |(at, length): (usize, &usize)| {
+            let mut bytes = files.get(at).map_or(vec![], |words| bytes_of(words));
+            bytes.resize(*length, 0);
+            bytes
+        };
+        Left { number, buffers: lengths.iter().enumerate().map(left).collect() }
     }
+
+    /// What the call with two results owes.
+    pub fn owed_both(outcome: &BothFiles, rooms: Rooms) -> Left {
+        match outcome {
+            Ok(files) => Left::owed(0, files, &rooms),
+            Err(refusal) => Left::owed(refusal.number, &[], &rooms),
+        }
+    }
+
+    /// The words of a buffer, without zeros at its end.
+    fn told(&self, at: usize) -> String {
+        let bytes = &self.buffers[at];
+        hex(&bytes[..bytes.iter().rposition(|byte| *byte != 0).map_or(0, |last| last + 1)])
+    }
+}
+
+/// Makes a call in buffers of garbage. What it leaves, and whether its inputs and all guards stand.
+fn made_in<const N: usize>(
+    random: &mut Random,
+    inputs: &[&[u8]],
+    lengths: [usize; N],
+    make: impl FnOnce(&[&[u8]], &mut [Guarded; N]) -> u32,
+) -> (Left, bool) {
+    let given: Vec<Guarded> = inputs.iter().map(|bytes| Guarded::input(random, bytes)).collect();
+    let mut lent = lengths.map(|length| Guarded::garbage(random, length));
+    let number = make(&given.iter().map(Guarded::inner).collect::<Vec<_>>(), &mut lent);
+    let kept = given.iter().zip(inputs).all(|(kept, bytes)| kept.inner() == *bytes);
+    let guarded = given.iter().chain(&lent).all(Guarded::guards_stand);
+    let buffers = lent.iter().map(|buffer| buffer.inner().to_vec()).collect();
+    (Left { number, buffers }, kept && guarded)
 }
 
 impl Call {
@@ -132,16 +165,10 @@ impl Call {
 
     /// Makes the call in buffers of garbage. Panics where it changed an input or a guard.
     pub fn leaves(&self, random: &mut Random, room: Room) -> Left {
-        let given: Vec<Guarded> =
-            self.inputs().into_iter().map(|bytes| Guarded::input(random, bytes)).collect();
-        let mut out = Guarded::garbage(random, room.out);
-        let mut work = Guarded::garbage(random, room.work);
-        let inputs: Vec<&[u8]> = given.iter().map(Guarded::inner).collect();
-        let number = self.make(&inputs, out.inner_mut(), work.inner_mut());
-        let kept = given.iter().zip(self.inputs()).all(|(kept, bytes)| kept.inner() == bytes);
-        let guarded = given.iter().chain([&out, &work]).all(Guarded::guards_stand);
-        let left = Left { number, out: out.inner().to_vec(), work: work.inner().to_vec() };
-        assert!(kept && guarded, "{}, an input or a guard changed", self.told(room, &left));
+        let (left, stands) = made_in(random, &self.inputs(), [room.out, room.work], |given, [out, work]| {
+            self.make(given, out.inner_mut(), work.inner_mut())
+        });
+        assert!(stands, "{}, an input or a guard changed", self.told(room, &left));
         left
     }
 
@@ -149,7 +176,8 @@ impl Call {
     pub fn check(&self, random: &mut Random, room: Room) -> Outcome {
         let outcome = self.evaluate(room);
         let left = self.leaves(random, room);
-        let right = left == Left::owed(&outcome, room);
+        let (number, words) = answer(&outcome);
+        let right = left == Left::owed(number, &[words], &[room.out, room.work]);
         assert!(right, "{}, the evaluation {outcome:x?}", self.told(room, &left));
         outcome
     }
@@ -157,7 +185,6 @@ impl Call {
     /// The call with its inputs and what the library gave.
     pub fn told(&self, room: Room, left: &Left) -> String {
         let inputs: Vec<String> = self.inputs().into_iter().map(hex).collect();
-        let length = left.out.iter().rposition(|byte| *byte != 0).map_or(0, |last| last + 1);
         let grouped = matches!(self.groups_and_path(), Some((Some(_), _)));
         format!(
             "{}{}, {room:?}, inputs:\n{}\nsite {:?}: the library gives {} and {}",
@@ -166,9 +193,26 @@ impl Call {
             inputs.join("\n"),
             if let Call::Cut { site, .. } = self { Some(*site) } else { None },
             left.number,
-            hex(&left.out[..length]),
+            left.told(0),
         )
     }
+}
+
+/// Makes the call for the dearest files and holds it to the evaluation's outcome, which is handed back. Panics where they differ.
+pub fn check_dearest(random: &mut Random, counts: Counts, rooms: Rooms) -> BothFiles {
+    let [doors, targets, labels] = counts;
+    let (left, stands) = made_in(random, &[], rooms, |_, [part, path, work]| {
+        calls::dearest(doors, targets, labels, part.inner_mut(), path.inner_mut(), work.inner_mut())
+    });
+    let outcome = evaluation::dearest(counts, rooms);
+    assert!(
+        stands && left == Left::owed_both(&outcome, rooms),
+        "dearest {counts:?}, {rooms:?}: the library gives {}, part\n{}\nand path\n{}, the evaluation {outcome:x?}",
+        left.number,
+        left.told(0),
+        left.told(1),
+    );
+    outcome
 }
 
 /// An outcome as number and words; a refusal has none.

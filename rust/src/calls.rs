@@ -1,26 +1,31 @@
-//! The nine calls of the library, on slices. Each returns its number.
+//! The ten calls of the library, on slices. Each returns its number.
 
-/// Declares calls under their C names, and makes of each a function on slices: inputs, the number that it takes if any, output and working
+/// Declares calls under their C names, and makes of each a function on slices: inputs and numbers that it takes, if any, outputs and working
 /// buffer.
 macro_rules! calls {
-    ($($name:ident = $symbol:ident($($input:ident),+ $(; $number:ident)?);)+) => {
+    ($($name:ident = $symbol:ident($($input:ident),* $(; $($number:ident),+)?) -> $($out:ident),+;)+) => {
         mod library {
             extern "C" {
                 $(pub fn $symbol(
-                    $($input: *const u8, _: usize,)+
-                    $($number: u32,)?
-                    out: *mut u8, _: usize,
+                    $($input: *const u8, _: usize,)*
+                    $($($number: u32,)+)?
+                    $($out: *mut u8, _: usize,)+
                     work: *mut u8, _: usize,
                 ) -> u32;)+
             }
         }
-        $(pub fn $name($($input: &[u8],)+ $($number: u32,)? out: &mut [u8], work: &mut [u8]) -> u32 {
+        $(pub fn $name(
+            $($input: &[u8],)*
+            $($($number: u32,)+)?
+            $($out: &mut [u8],)+
+            work: &mut [u8],
+        ) -> u32 {
             // The pointers and lengths come from slices, so they are valid, and the mutable ones are disjoint from all others.
             unsafe {
                 library::$symbol(
-                    $($input.as_ptr(), $input.len(),)+
-                    $($number,)?
-                    out.as_mut_ptr(), out.len(),
+                    $($input.as_ptr(), $input.len(),)*
+                    $($($number,)+)?
+                    $($out.as_mut_ptr(), $out.len(),)+
                     work.as_mut_ptr(), work.len(),
                 )
             }
@@ -29,13 +34,14 @@ macro_rules! calls {
 }
 
 calls! {
-    old_search = mowqachi_old_search(whole, path);
-    old_search_grouped = mowqachi_old_search_grouped(whole, groups, path);
-    cut = mowqachi_cut(whole, cuts; site);
-    first_reply = mowqachi_first_reply(part, path);
-    first_reply_grouped = mowqachi_first_reply_grouped(part, groups, path);
-    call_list = mowqachi_call_list(bundle);
-    second_reply = mowqachi_second_reply(part, path, calls);
-    second_reply_grouped = mowqachi_second_reply_grouped(part, groups, path, calls);
-    join = mowqachi_join(bundle);
+    old_search = mowqachi_old_search(whole, path) -> out;
+    old_search_grouped = mowqachi_old_search_grouped(whole, groups, path) -> out;
+    cut = mowqachi_cut(whole, cuts; site) -> out;
+    first_reply = mowqachi_first_reply(part, path) -> out;
+    first_reply_grouped = mowqachi_first_reply_grouped(part, groups, path) -> out;
+    call_list = mowqachi_call_list(bundle) -> out;
+    second_reply = mowqachi_second_reply(part, path, calls) -> out;
+    second_reply_grouped = mowqachi_second_reply_grouped(part, groups, path, calls) -> out;
+    join = mowqachi_join(bundle) -> out;
+    dearest = mowqachi_dearest(; doors, targets, labels) -> part, path;
 }

@@ -1,11 +1,12 @@
 //! Which mistakes a call or a path finds out: by which of them a program would give another outcome.
 
-use crate::beside::{answer, Call};
+use crate::beside::{answer, Call, Left};
+use crate::evaluation::dearest::{Counts, Rooms};
 use crate::evaluation::groups::{read_groups, Groups, OURS};
 use crate::evaluation::hub::{read_first_bundle, FirstBundle};
 use crate::evaluation::path::{read_path, read_path_by, MayStand, Path};
 use crate::evaluation::words::*;
-use crate::evaluation::{Outcome, Room};
+use crate::evaluation::{BothFiles, Outcome, Room};
 use crate::mistakes::*;
 
 /// The call with its plant's and path's words taken for others, if any of them is.
@@ -99,6 +100,16 @@ pub fn found_out_by_call(call: &Call, room: Room, outcome: &Outcome) -> Vec<&'st
     let [stopped, outside] = [&STOPPED[..], &OUTSIDE].map(|table| names(table, |taken| made.misread(*taken)));
     let waiting = names(&WAITING, |may_stand| made.miscounted(*may_stand));
     [stopped, outside, waiting, made.misgrouped()].concat()
+}
+
+/// The mistakes that a call for the dearest files finds out: an accepted one those in the files, one that comes to its counts those in which
+/// are accepted, any one those in what is left.
+pub fn found_out_by_counts(counts: Counts, rooms: Rooms, outcome: &BothFiles) -> Vec<&'static str> {
+    let right = Left::owed_both(outcome, rooms);
+    let accepting = |accepting: &Accepting| right.number != 1 && accepting(counts) != outcome.is_ok();
+    let written = |written: &Written| outcome.as_ref().map_or(false, |files| written(counts) != *files);
+    let leaving = |leaving: &Leaving| leaving(counts, rooms) != right;
+    [names(&COUNTS, accepting), names(&WRITTEN, written), names(&LEAVING, leaving)].concat()
 }
 
 /// The mistakes in reading label words, and the groups that are handed in, by which a path is refused, or `of` it is not what is right.

@@ -1,13 +1,15 @@
 //! Mistakes, each as what is taken for right by a program that makes it: another word, other groups, another rule. The tests fail where none
 //! of their cases would find one out.
 
+use crate::beside::Left;
+use crate::evaluation::dearest::{check_counts, dearest_files, Counts, Rooms, LEAST_ROOMS};
 use crate::evaluation::groups::{Groups, OURS};
 use crate::evaluation::hub::FirstBundle;
 use crate::evaluation::path::{MayStand, MOST_WAITING};
 use crate::evaluation::replies::{running_lengths, Pair};
 use crate::evaluation::words::*;
-use crate::evaluation::{call_list_of, check_result, Outcome};
-use crate::generate::path::{outside, range};
+use crate::evaluation::{call_list_of, check_result, dearest, Outcome};
+use crate::generate::path::{group, outside, range, OR, STAR, THEN};
 use std::collections::BTreeSet;
 use std::ops::Range;
 
@@ -33,6 +35,12 @@ pub type PassedOver = fn(&Outcome, &[u8]) -> bool;
 pub type Hub = fn(&FirstBundle) -> Outcome;
 /// How long a first reply is held to be, by how many pairs are reported of each door in each state.
 pub type Counted = fn(&[Vec<usize>]) -> usize;
+/// Whether the dearest files are written for these counts.
+pub type Accepting = fn(Counts) -> bool;
+/// The dearest files as they are written.
+pub type Written = fn(Counts) -> [Vec<u32>; 2];
+/// What is left by a call for the dearest files.
+pub type Leaving = fn(Counts, Rooms) -> Left;
 
 /// Nodes that are stopped, by root and door bit.
 pub const STOPPED: [Named<Taken>; 3] = [
@@ -154,6 +162,84 @@ pub const LENGTHS: [Named<Counted>; 6] = [
     ("rows without reach words counted", |doors| length(doors) + rows_with(doors, |pairs| pairs == 0)),
     ("doors without rows not counted", |doors| {
         length(doors) - doors.iter().filter(|rows| rows.iter().all(|pairs| *pairs == 0)).count()
+    }),
+];
+
+/// For which counts the dearest files are written. A program that does not hold the words of a part to a limit is found out wherever one is
+/// whose limit is too high; with the sum of doors and targets held to 65,536 first no product wraps.
+pub const COUNTS: [Named<Accepting>; 12] = [
+    ("no doors accepted", |counts| within(counts, [0, 1, 1], 15, 4096)),
+    ("no targets accepted", |counts| within(counts, [1, 0, 1], 15, 4096)),
+    ("no labels accepted", |counts| within(counts, [1, 1, 0], 15, 4096)),
+    ("sixteen labels accepted", |counts| within(counts, [1; 3], 16, 4096)),
+    ("only fourteen labels accepted", |counts| within(counts, [1; 3], 14, 4096)),
+    ("a part of 4,097 words accepted", |counts| within(counts, [1; 3], 15, 4097)),
+    ("a part of 4,096 words refused", |counts| within(counts, [1; 3], 15, 4095)),
+    ("door words not counted in the part", |counts| within(counts, [1; 3], 15, 4096 + u64::from(counts[0]))),
+    ("words wrapped at 32 bits", within_wrapped),
+    ("words, and doors with targets, wrapped at 32 bits", |[doors, targets, labels]| {
+        within_wrapped([doors, targets, labels]) && doors.wrapping_add(targets) <= 65_536
+    }),
+    ("counts cut to 16 bits", |counts| check_counts(counts.map(|count| count & 0xffff)).is_ok()),
+    ("labels cut to 4 bits", |[doors, targets, labels]| check_counts([doors, targets, labels & 15]).is_ok()),
+];
+
+/// The dearest files.
+pub const WRITTEN: [Named<Written>; 18] = [
+    ("links of label 1", |counts| with_part(counts, EDGE, |word| word | 1 << 16)),
+    ("targets one too high", |counts| with_part(counts, EDGE, |word| word + 1)),
+    ("doors one too high", |counts| with_part(counts, NODE, |word| word + 1)),
+    ("doors that are none", |counts| with_part(counts, NODE, |word| word & !(1 << 16))),
+    ("the first door a root", |counts| {
+        with_part(counts, NODE, |word| word | u32::from(word << 16 == 0) << 17)
+    }),
+    ("a part of site 1", |counts| with_part(counts, PART, |word| word | 1 << 24)),
+    ("one door too many", |[doors, targets, labels]| dearest_files([doors + 1, targets, labels])),
+    ("one target too many", |[doors, targets, labels]| dearest_files([doors, targets + 1, labels])),
+    ("one label too many", |[doors, targets, labels]| dearest_files([doors, targets, labels + 1])),
+    ("labels not in the header", |[doors, targets, labels]| {
+        let [part, path] = dearest_files([doors, targets, labels]);
+        [part, file(PATH, 0, 0, &path[1..])]
+    }),
+    ("ranges without label 0", |counts| {
+        with_path(counts, |path| with_word(path, range(0, 4095), range(1, 4095)))
+    }),
+    ("ranges without label 4095", |counts| {
+        with_path(counts, |path| with_word(path, range(0, 4095), range(0, 4094)))
+    }),
+    ("groups for ranges", |counts| with_path(counts, |path| with_word(path, range(0, 4095), group(0)))),
+    ("then for or", |counts| with_path(counts, |path| with_word(path, OR, THEN))),
+    ("each or behind the third range", |counts| with_path(counts, |path| ors_put_off(path.len() / 2, 2))),
+    ("all ors behind all ranges", |counts| with_path(counts, |path| ors_put_off(path.len() / 2, 15))),
+    ("no star", |counts| with_path(counts, |path| path[..path.len() - 1].to_vec())),
+    ("a star of the first range alone", |counts| {
+        with_path(counts, |path| [&path[..1], &[STAR], &path[1..path.len() - 1]].concat())
+    }),
+];
+
+/// What is left by a call for the dearest files. A program that does not look at an output's length is found out wherever one is that is
+/// content with room for its file.
+pub const LEAVING: [Named<Leaving>; 16] = [
+    ("21 ahead of 1", |counts, rooms| match check_counts(counts) {
+        Err(refusal) => Left::owed(refusal.number, &[], &rooms),
+        Ok(()) => Left::owed_both(&dearest(counts, rooms), rooms),
+    }),
+    ("room for the part's words accepted", |counts, rooms| content(counts, rooms, 0)),
+    ("room for the path's words accepted", |counts, rooms| content(counts, rooms, 1)),
+    ("any working buffer accepted", |counts, rooms| content(counts, rooms, 2)),
+    ("a part's output of 16,384 bytes refused", |counts, rooms| with_length(counts, rooms, 0, one_less)),
+    ("a path's output of 256 bytes refused", |counts, rooms| with_length(counts, rooms, 1, one_less)),
+    ("a working buffer of 32,768 bytes refused", |counts, rooms| with_length(counts, rooms, 2, one_less)),
+    ("the part's output left after a refusal", |counts, rooms| as_lent(counts, rooms, 0, after_refusal)),
+    ("the path's output left after a refusal", |counts, rooms| as_lent(counts, rooms, 1, after_refusal)),
+    ("the working buffer left after a refusal", |counts, rooms| as_lent(counts, rooms, 2, after_refusal)),
+    ("the part's output left past its words", |counts, rooms| as_lent(counts, rooms, 0, |file| file)),
+    ("the path's output left past its words", |counts, rooms| as_lent(counts, rooms, 1, |file| file)),
+    ("the working buffer left", |counts, rooms| as_lent(counts, rooms, 2, |file| file)),
+    ("the part's output left past 16,384 bytes", |counts, rooms| as_lent(counts, rooms, 0, |_| Some(16_384))),
+    ("the path's output left past 256 bytes", |counts, rooms| as_lent(counts, rooms, 1, |_| Some(256))),
+    ("the working buffer left past 32,768 bytes", |counts, rooms| {
+        as_lent(counts, rooms, 2, |_| Some(32_768))
     }),
 ];
 
@@ -291,4 +377,80 @@ fn not_found(bundle: &FirstBundle, lost: impl Fn(u32) -> bool) -> Outcome {
 pub fn mistaken(words: &[u32], taken: Taken) -> Option<Vec<u32>> {
     let others: Vec<u32> = words.iter().map(|word| taken(*word)).collect();
     (others != words).then_some(others)
+}
+
+/// The names of all mistakes about the dearest files.
+pub fn in_dearest_files() -> Vec<&'static str> {
+    [names(&COUNTS, |_| true), names(&WRITTEN, |_| true), names(&LEAVING, |_| true)].concat()
+}
+
+/// Whether no count is below the least, and labels, doors with targets and the words of a part are not above the most.
+fn within(counts: Counts, least: Counts, most_labels: u64, most_words: u64) -> bool {
+    let [doors, targets, labels] = counts.map(u64::from);
+    counts.iter().zip(least).all(|(count, least)| *count >= least)
+        && labels <= most_labels
+        && doors + targets <= 65_536
+        && 1 + doors * (1 + targets) <= most_words
+}
+
+/// The same of a part's words as they are in 32 bits, without doors and targets.
+fn within_wrapped([doors, targets, labels]: Counts) -> bool {
+    let words = doors.wrapping_mul(targets.wrapping_add(1)).wrapping_add(1);
+    [doors, targets, labels].iter().all(|count| *count >= 1) && labels <= 15 && words <= 4096
+}
+
+/// The dearest files with other words of one kind in the part.
+fn with_part(counts: Counts, of: u32, other: Taken) -> [Vec<u32>; 2] {
+    let [part, path] = dearest_files(counts);
+    let taken = |word: u32| if kind(word) == of { other(word) } else { word };
+    [part.into_iter().map(taken).collect(), path]
+}
+
+/// The dearest files with other words behind the path's header.
+fn with_path(counts: Counts, other: impl Fn(&[u32]) -> Vec<u32>) -> [Vec<u32>; 2] {
+    let [part, path] = dearest_files(counts);
+    [part, file(PATH, 0, counts[2], &other(&path[1..]))]
+}
+
+fn with_word(path: &[u32], word: u32, other: u32) -> Vec<u32> {
+    path.iter().map(|own| if *own == word { other } else { *own }).collect()
+}
+
+/// A star of an or of so many full ranges, in which an or stands only once more than so many operands wait, or no range is left.
+fn ors_put_off(ranges: usize, most: usize) -> Vec<u32> {
+    let before = ranges.min(most);
+    let behind = [range(0, 4095), OR].repeat(ranges - before);
+    [vec![range(0, 4095); before], behind, vec![OR; before - 1], vec![STAR]].concat()
+}
+
+/// With the length of a buffer taken for another.
+fn with_length(counts: Counts, rooms: Rooms, at: usize, other: impl Fn(usize) -> usize) -> Left {
+    let mut taken = rooms;
+    taken[at] = other(rooms[at]);
+    Left::owed_both(&dearest(counts, taken), rooms)
+}
+
+fn one_less(length: usize) -> usize {
+    length.saturating_sub(1)
+}
+
+/// With the least length for that of a buffer that has room for its file, if it has one.
+fn content(counts: Counts, rooms: Rooms, at: usize) -> Left {
+    let files = check_counts(counts).map(|_| dearest_files(counts));
+    let least = files.map_or(usize::MAX, |files| files.get(at).map_or(0, |file| 4 * file.len()));
+    let taken = |length: usize| if length < least { length } else { length.max(LEAST_ROOMS[at]) };
+    with_length(counts, rooms, at, taken)
+}
+
+/// With the bytes of a buffer as they were lent, from where `from` has it by the bytes of its file, which a refusal has not.
+fn as_lent(counts: Counts, rooms: Rooms, at: usize, from: fn(Option<usize>) -> Option<usize>) -> Left {
+    let outcome = dearest(counts, rooms);
+    let mut left = Left::owed_both(&outcome, rooms);
+    let file = outcome.ok().map(|files| files.get(at).map_or(0, |file| 4 * file.len()));
+    left.buffers[at].iter_mut().skip(from(file).unwrap_or(usize::MAX)).for_each(|byte| *byte = 0x55);
+    left
+}
+
+fn after_refusal(file: Option<usize>) -> Option<usize> {
+    file.map_or(Some(0), |_| None)
 }

@@ -1,6 +1,7 @@
 //! Calls written in hexadecimal words, as the documents have them, and what the library answers.
 
 use crate::beside::{answer, hex, Call};
+use crate::evaluation::dearest::dearest_part;
 use crate::evaluation::groups::{Groups, OURS};
 use crate::evaluation::words::bytes_of;
 use crate::evaluation::Room;
@@ -114,12 +115,7 @@ pub fn path_gets(words: &[u32], number: u32) {
 
 /// Two doors without links between them, each with label 0 to `targets` nodes outside.
 pub fn dear_part(targets: u32) -> Vec<u8> {
-    let mut part = vec![0x1000_0000 | (3 + 2 * targets)];
-    for door in 0..2 {
-        part.push(0x2001_0000 | door);
-        part.extend((0..targets).map(|target| 0x3000_0000 | (2 + target)));
-    }
-    bytes_of(&part)
+    bytes_of(&dearest_part(2, targets).words())
 }
 
 /// Two first replies: the root calls `first` pairs of the doors behind it, and door 1 calls `more` states of the last door.

@@ -1,11 +1,13 @@
 //! Random and damaged inputs for every call, by the library and by the evaluation; every check of the documents must have refused some, and
-//! every mistake in reading stopped nodes and labels outside a range, in counting operands, in loading groups and about nodes that are no
-//! doors must have been found out by some.
+//! every mistake in reading stopped nodes and labels outside a range, in counting operands, in loading groups, about nodes that are no doors
+//! and about the dearest files must have been found out by some.
 
+use mowqachi_tests::beside::check_dearest;
 use mowqachi_tests::evaluation::words::Refusal;
-use mowqachi_tests::finding::found_out_by_call;
+use mowqachi_tests::finding::{found_out_by_call, found_out_by_counts};
 use mowqachi_tests::generate::calls::{call, room};
-use mowqachi_tests::mistakes::{names, GROUPS, LOADED, OUTSIDE, PLACES, STOPPED, STRAYS, WAITING};
+use mowqachi_tests::generate::counts::{counts, rooms};
+use mowqachi_tests::mistakes::*;
 use mowqachi_tests::random::{cases, seed, Naming, Random};
 use std::collections::BTreeMap;
 
@@ -84,6 +86,15 @@ const FIRST: Checks = &[
 ];
 const SECOND: Checks = &[(5, "no answer word"), (5, "answer zero bit"), (6, "answers")];
 const ROOM: Checks = &[(1, "output short"), (1, "working buffer short")];
+const ROOM_BESIDE: Checks = &[(1, "output short")];
+const NUMBERS: Checks = &[
+    (21, "no doors"),
+    (21, "no targets"),
+    (21, "no labels"),
+    (21, "over 15 labels"),
+    (21, "doors and targets over 65,536"),
+    (21, "part over its limit"),
+];
 const RESULT: Checks = &[(15, "over its limit")];
 
 /// Inputs, each with the lists of its checks.
@@ -102,9 +113,10 @@ fn mistakes(inputs: Inputs) -> Vec<&'static str> {
     let has = |wanted: &[&str]| inputs.iter().any(|(input, _)| wanted.contains(input));
     let (nodes, path, groups) = (has(&["part", "whole"]), has(&["path"]), has(&["groups"]));
     let in_bundles = names(&STRAYS, |_| has(&["first bundle"]));
+    let in_files = if has(&["counts"]) { in_dearest_files() } else { vec![] };
     let in_words = [names(&STOPPED, |_| nodes), names(&OUTSIDE, |_| path), names(&WAITING, |_| path)];
     let in_groups = [names(&GROUPS, |_| groups), names(&LOADED, |_| groups), names(&PLACES, |_| groups)];
-    [&in_words[..], &in_groups, &[in_bundles]].concat().concat()
+    [&in_words[..], &in_groups, &[in_bundles, in_files]].concat().concat()
 }
 
 fn named(refusal: Option<&Refusal>) -> String {
@@ -121,28 +133,36 @@ fn owed(inputs: Inputs) -> BTreeMap<String, u64> {
     checks.chain(mistakes).chain([named(None)]).map(|what| (what, 0)).collect()
 }
 
+/// The mistakes that a call finds out, and why it is refused, if it is.
+type Met = (Vec<&'static str>, Option<Refusal>);
+
 /// Makes this share of the cases, and goes on for a while if something has not been met.
-fn run(name: &'static str, inputs: Inputs) {
-    let mut seen = owed(&[&[("buffers", &[ROOM][..])], inputs].concat());
+fn meet(name: &'static str, inputs: Inputs, make: impl Fn(&mut Random) -> Met) {
+    let mut seen = owed(inputs);
     let wanted = cases() * 8 / 100;
     let most = wanted + 50_000;
     let mut made = 0;
     while made < wanted || made < most && seen.values().any(|count| *count == 0) {
         let _naming = Naming(name, made);
-        let mut random = Random::new(seed(), name, made);
-        let call = call(&mut random, name);
-        let room = room(&mut random, &call);
-        let outcome = call.check(&mut random, room);
-        let found_out = found_out_by_call(&call, room, &outcome).into_iter().map(str::to_string);
-        for what in found_out.chain([named(outcome.as_ref().err())]) {
+        let (found_out, refusal) = make(&mut Random::new(seed(), name, made));
+        for what in found_out.into_iter().map(str::to_string).chain([named(refusal.as_ref())]) {
             let count = seen.get_mut(&what);
-            *count.unwrap_or_else(|| panic!("{name} refused by a check it has not: {outcome:?}")) += 1;
+            *count.unwrap_or_else(|| panic!("{name} refused by a check it has not: {refusal:?}")) += 1;
         }
         made += 1;
     }
     seen.iter().for_each(|(what, count)| println!("{name:20} {count:7} {what}"));
     println!("{name:20} {made:7} cases");
     assert!(seen.values().all(|count| *count > 0), "{name}: something was never met");
+}
+
+fn run(name: &'static str, inputs: Inputs) {
+    meet(name, &[&[("buffers", &[ROOM][..])], inputs].concat(), |random| {
+        let call = call(random, name);
+        let room = room(random, &call);
+        let outcome = call.check(random, room);
+        (found_out_by_call(&call, room, &outcome), outcome.err())
+    });
 }
 
 /// The same with the groups that the call is handed.
@@ -193,4 +213,14 @@ fn second_reply_grouped() {
 #[test]
 fn join() {
     run("join", &[("second bundle", &[SIZE, HEADER, BUNDLE, SECOND])]);
+}
+
+#[test]
+fn dearest() {
+    let buffers = [("part's buffers", &[ROOM][..]), ("path's buffers", &[ROOM_BESIDE])];
+    meet("dearest", &[&buffers[..], &[("counts", &[NUMBERS])]].concat(), |random| {
+        let (counts, rooms) = (counts(random), rooms(random));
+        let outcome = check_dearest(random, counts, rooms);
+        (found_out_by_counts(counts, rooms, &outcome), outcome.err())
+    });
 }

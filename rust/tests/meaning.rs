@@ -8,7 +8,7 @@ use mowqachi_tests::evaluation::part::Part;
 use mowqachi_tests::evaluation::path::{read_path, Expression, Path};
 use mowqachi_tests::evaluation::plant::Plant;
 use mowqachi_tests::evaluation::states::States;
-use mowqachi_tests::evaluation::words::bytes_of;
+use mowqachi_tests::evaluation::words::{bytes_of, kind, LABEL};
 use mowqachi_tests::finding::found_out_by_path;
 use mowqachi_tests::generate::groups::{grouped, groups, naming};
 use mowqachi_tests::generate::path::{alphabet, label_word, or_of, path};
@@ -135,6 +135,8 @@ fn words() {
     while case < wanted || case < wanted + 10_000 && found.len() < mistakes {
         let mut random = Random::new(seed(), "words", case);
         let (alphabet, words, groups, path) = drawn_path(&mut random, case, 6);
+        let labels: Vec<u32> = words.iter().copied().filter(|word| kind(*word) == LABEL).collect();
+        assert_eq!(path.expression.postfix(&|position| labels[position - 1]), words[1..]);
         let states = States::of(&path);
         for length in 0..6 {
             let word: Vec<u32> = (0..length).map(|_| random.pick(&alphabet)).collect();

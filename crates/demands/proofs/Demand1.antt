@@ -1,5 +1,5 @@
 -- Demand 1, for all bytes and all buffers. A call's checks give only its numbers (Numbers); and what the old search, the cutter, a second reply and
--- joining owe is within its limit wherever the checks pass, so that 15 is none of theirs. Assumes nothing.
+-- joining owe is within its limit wherever the checks pass, so that 15 is none of theirs; so are the two files of the planners' call. Assumes nothing.
 use mathlib.Core.Path.{_≡_, refl, ap}
 use mathlib.Core.Logic.{_⊎_, inl, inr}
 use mathlib.Core.Bool.{Bool, not, _&&_}
@@ -36,9 +36,12 @@ use Rattle.hub_calls.proofs.CallLists.{call-list}
 use Rattle.hub_calls.specs.CallList.{callListCall}
 use Rattle.hub_join.specs.Join.{joinCall}
 use Rattle.hub_join.proofs.Joining.{joined-list, joined-fits}
+use Rattle.dearest.specs.Dearest.{dearPart, dearPath, leavesBoth, dearestNumber, dearestCall}
+use Rattle.dearest.specs.Answer.{Writable}
+use Rattle.dearest.proofs.Answering.{writable, files-fit}
 use Rattle.demands.specs.PlantOf.{plantOf}
 use Rattle.demands.specs.Grouped.{own}
-use Rattle.demands.specs.Demand1.{Settles, rows, Demand1}
+use Rattle.demands.specs.Demand1.{Settles, SettlesBoth, dearestNumbers, rows, Demand1}
 use Rattle.demands.proofs.PlantOf.{plant-holds}
 use Rattle.demands.proofs.OldSearch.{old-final}
 use Rattle.demands.proofs.Grouping.{asks-checked, final-asked}
@@ -59,6 +62,20 @@ settles ks limit most n m s c Owed result t u a h = go (roomCheck limit n m then
 
     go : (k : ℕ) → k ≡ (roomCheck limit n m then sizeCheck most s then c) → Among ks k → Settles ks limit Owed (outcome k limit result) n m
     go zero e b = let p : Passed limit n m (input most s c ∷ []) = passed {cs = input most s c ∷ []} refl (record { is = e }) refl refl in let (w, r) = h (p .read .0) in result-or-15 p (decLe (length result) limit) w r
+    go (suc k) e (inl z) = absurd (omega arith)
+    go (suc k) e (inr i) = inl (suc k, i, refl)
+
+-- The call with two outputs: where the counts are accepted, both files are within their limits.
+both-settle : (d t n a b m : ℕ) → SettlesBoth dearestNumbers 4096 64 (dearPart d t) (dearPath n) (dearestCall a b m d t n) a b m
+unfolding dearestCall
+both-settle d t n a b m = go (dearestNumber a b m d t n) refl (search among)
+  where
+    go : (k : ℕ) → k ≡ dearestNumber a b m d t n → Among dearestNumbers k
+        → SettlesBoth dearestNumbers 4096 64 (dearPart d t) (dearPath n) (leavesBoth k (dearPart d t) (dearPath n) a b m) a b m
+    go zero e i =
+        let w : Writable a b d t n = writable {m = m} (record { is = e }) refl in
+        let (p, q) = files-fit w in
+        inr (p, w .part-holds, q, w .path-holds, refl)
     go (suc k) e (inl z) = absurd (omega arith)
     go (suc k) e (inr i) = inl (suc k, i, refl)
 
@@ -121,9 +138,10 @@ demand-1 = record {
       let (b, _) = then-iff (pathCheck (words path)) _ .0 (then-iff (sizeCheck 64 path) _ .0 s .1) in
       let asked = loaded (words groups) (words path) in
       (second-reply (words part) asked (words calls) a (asks-checked (own groups) (words path) g b), inl (omega (arith, second-length (words part) asked (words calls) a, p .few))));
+  dearest = both-settle;
   -- by computation
   numbered = λ row i k j.
-      let test : ℕ → Bool = λ k. leb 1 k && leb k 16 in
+      let test : ℕ → Bool = λ k. leb 1 k && leb k 21 in
       let t = all-iff test row .0 (all-iff (λ row. not (any (λ k. not (test k)) row)) rows .0 tt row i) k j in
       simp (and-iff, le-iff) at t;
 }

@@ -1,6 +1,6 @@
--- Believed. The user's demand 1. Any file, cut list, bundle or groups, with buffers of any length, gets its one result or a refusal under a number
--- of document 01 or 02, and a refusal leaves output and working buffer all zero. It is said of `leaves` of the calls' outcomes, and that is what the
--- calls leave, by their contracts (mowqachi/src/lib.rt). That a call ends and touches nothing else is what the check proves of every function.
+-- Believed. The user's demand 1. Any file, cut list, bundle, groups or counts, with buffers of any length, get their one result or a refusal under a
+-- number of document 01 or 02, and a refusal leaves outputs and working buffer all zero. It is said of `leaves` of the calls' outcomes, and that is
+-- what the calls leave, by their contracts (mowqachi/src/lib.rt). That a call ends and touches nothing else is what the check proves of every function.
 use Prim.Native.Nat.{ℕ, _*_, _≤_}
 use mathlib.Core.Path.{_≡_}
 use mathlib.Core.Logic.{_⊎_}
@@ -19,6 +19,7 @@ use Rattle.hub_join.specs.Join.{IsJoined, joinCall}
 use Rattle.old.specs.Old.{oldSearchCall, oldSearchGroupedCall}
 use Rattle.cutter.specs.Cut.{cutCall}
 use Rattle.cutter.specs.Cut as cutter
+use Rattle.dearest.specs.Dearest.{dearPart, dearPath, LeftBoth, leftBoth, dearestCall}
 use Rattle.demands.specs.Plant.{FinalList, FinalListBy}
 use Rattle.demands.specs.PlantOf.{plantOf}
 
@@ -29,6 +30,12 @@ abbrev pub Settles {ℓ} : List ℕ → ℕ → (List ℕ → Type ℓ) → Outc
 Settles numbers limit Owed o n m =
     ((k : ℕ) × Mem k numbers × (leaves o n m ≡ left k (zeros n) (zeros m)))
     ⊎ ((f : List ℕ) × Owed f × (length f ≤ limit) × (4 * limit ≤ n) × (leaves o n m ≡ left 0 (padded n f) (zeros m)))
+
+-- the same of a call that owes two files, in outputs of a and b bytes
+abbrev pub SettlesBoth : List ℕ → ℕ → ℕ → List ℕ → List ℕ → LeftBoth → ℕ → ℕ → ℕ → Type 0
+SettlesBoth numbers limit limit′ part path l a b m =
+    ((k : ℕ) × Mem k numbers × (l ≡ leftBoth k (zeros a) (zeros b) (zeros m)))
+    ⊎ ((length part ≤ limit) × (4 * limit ≤ a) × (length path ≤ limit′) × (4 * limit′ ≤ b) × (l ≡ leftBoth 0 (padded a part) (padded b path) (zeros m)))
 
 -- The numbers of each call, as the table of docs/CALLS.md has them
 abbrev pub oldSearchNumbers : List ℕ
@@ -49,6 +56,9 @@ secondReplyNumbers = 1 ∷ 2 ∷ 3 ∷ 4 ∷ 5 ∷ 6 ∷ 7 ∷ 9 ∷ 10 ∷ 12 �
 abbrev pub joinNumbers : List ℕ
 joinNumbers = 1 ∷ 2 ∷ 3 ∷ 4 ∷ 5 ∷ 6 ∷ 12 ∷ 13 ∷ []
 
+abbrev pub dearestNumbers : List ℕ
+dearestNumbers = 1 ∷ 21 ∷ []
+
 -- a grouped call has those of the call without groups, and 16
 abbrev pub grouped : List ℕ → List ℕ
 grouped numbers = 16 ∷ numbers
@@ -56,7 +66,7 @@ grouped numbers = 16 ∷ numbers
 abbrev pub rows : List (List ℕ)
 rows =
     oldSearchNumbers ∷ cutNumbers ∷ firstReplyNumbers ∷ callListNumbers ∷ secondReplyNumbers ∷ joinNumbers
-    ∷ grouped oldSearchNumbers ∷ grouped firstReplyNumbers ∷ grouped secondReplyNumbers ∷ []
+    ∷ grouped oldSearchNumbers ∷ grouped firstReplyNumbers ∷ grouped secondReplyNumbers ∷ dearestNumbers ∷ []
 
 -- Demand 1: for all bytes and all buffers. What a call owes is said in the documents' words, which one file at most meets (docs/DECISIONS.md, 68).
 pub record Demand1 : Type 1 where
@@ -74,5 +84,6 @@ pub record Demand1 : Type 1 where
       → Settles (grouped firstReplyNumbers) 4096 (IsFirstReply (words part) (loaded (words groups) (words path))) (firstReplyGroupedCall n m part groups path) n m
   pub second-reply-grouped : (part groups path calls : List ℕ) (n m : ℕ)
       → Settles (grouped secondReplyNumbers) 4096 (IsSecondReply (words part) (loaded (words groups) (words path)) (words calls)) (secondReplyGroupedCall n m part groups path calls) n m
+  pub dearest : (D T n a b m : ℕ) → SettlesBoth dearestNumbers 4096 64 (dearPart D T) (dearPath n) (dearestCall a b m D T n) a b m
   -- the numbers are those of documents 01 and 02, and 0 is none of them: a call gives its result or is refused, and not both
-  pub numbered : (row : List ℕ) → Mem row rows → (k : ℕ) → Mem k row → (1 ≤ k) × (k ≤ 16)
+  pub numbered : (row : List ℕ) → Mem row rows → (k : ℕ) → Mem k row → (1 ≤ k) × (k ≤ 21)

@@ -1,7 +1,7 @@
 -- What a first reply reports of a door: the pairs outside the part that walks from the door lead to. Assumes nothing.
 use mathlib.Core.Path.{_≡_, refl, sym, ap, subst, _∙_}
 use mathlib.Core.Bool.{not}
-use mathlib.Core.List.{List, [], _∷_, map, flatten, Memᴰ·cast, Memᴰ·map, Memᴰ·of-map, List·Memᴰ·eq-of-singleton}
+use mathlib.Core.List.{List, [], _∷_, map, flatten, Memᴰ·cast, Memᴰ·map, List·Memᴰ·eq-of-singleton}
 use Prim.Native.Nat.{ℕ, _*_, _^_, _≤_, _<_}
 use native.Mathlib.Omega.{arith}
 use native.Mathlib.Nat.{le-trans}
@@ -11,7 +11,8 @@ use Rattle.sets.specs.Reach.{Reach, seed, next}
 use Rattle.sets.proofs.Sets.{flatten-map-iff, lists-iff}
 use Rattle.sets.proofs.Filter.{not-member-iff, filter-lists}
 use Rattle.sets.proofs.Reach.{reach-least}
-use Rattle.sets.proofs.Lengths.{pigeonhole, ascending-distinct, flatten-length}
+use Rattle.sets.proofs.Sums.{at-most, by-length, flatten-by}
+use Rattle.sets.proofs.Lengths.{pigeonhole, ascending-distinct}
 use Rattle.files.specs.Field.{labelOf, targetOf, pair, pairNode, pairState, doorWord}
 use Rattle.files.specs.Part.{nodes, roots, stopped, edges, outside}
 use Rattle.files.proofs.Fields.{pair-node, pair-state, pair-eta}
@@ -116,7 +117,7 @@ module _ (part : List ℕ) (e : Expr) (small : count e ≤ 15) (x q : ℕ) (stat
   pub reported-length : length (reported part e x q) ≤ length (outside part) * count e
   reported-length = le-trans
       (pigeonhole (reported part e x q) (flatten (map rowOf (outside part))) (ascending-distinct (reported part e x q) sorted) inside)
-      (rw length-map at (flatten-length (count e) (map rowOf (outside part)) (λ cs m. let r = Memᴰ·of-map rowOf (outside part) m in rw (← r .2) (rows (r .0)))))
+      (flatten-by at-most by-length rowOf (count e) (outside part) (λ t m. rows t))
     where
       rowOf : ℕ → List ℕ
       rowOf t = map (pair t) (positions (count e))

@@ -2,13 +2,14 @@
 -- D × T × n × (n + 1) reach words. A header is none if the reply is within its limit. Assumes nothing.
 use mathlib.Core.Path.{_≡_, ap}
 use mathlib.Core.Bool.{Bool}
-use mathlib.Core.List.{List, [], _∷_, map, flatten, Memᴰ·map, Memᴰ·of-map}
+use mathlib.Core.List.{List, [], _∷_, map, flatten, Memᴰ·map}
 use Prim.Native.Nat.{ℕ, suc, _*_, _^_, _≤_, _<_}
 use native.Mathlib.Omega.{arith}
 use native.Mathlib.Nat.{le-trans, le-of-eq}
 use lib.ListN.{length, drop, getD, length-map}
 use Rattle.sets.specs.Sets.{Mem, filter}
-use Rattle.sets.proofs.Filter.{filter-length, filter-flatten-length}
+use Rattle.sets.proofs.Sums.{at-most, flatten-by}
+use Rattle.sets.proofs.Filter.{filter-length, by-passing}
 use Rattle.files.specs.Field.{siteOf, labelsOf, nodeOf, rootOf, file, doorWord, reachWord}
 use Rattle.files.specs.Part.{isDoor, nodes, doors, outside}
 use Rattle.files.specs.Path.{pathCheck}
@@ -32,15 +33,9 @@ row-reaches q h (c ∷ cs) = rw (row q h .kind-is) (rw length-map at (filter-len
 rows-reach : (x : ℕ) (root : Bool) → x < 2 ^ 16 → (f : ℕ → List ℕ) (qs : List ℕ) (j k : ℕ) → length qs ≡ j
     → ((q : ℕ) → Mem q qs → (q < 16) × (length (f q) ≤ k))
     → length (filter isReach (doorWord x root ∷ flatten (map (λ q. rowWords q (f q)) qs))) ≤ j * k
-rows-reach x root h f qs j k l each = rw (door x root h .kind-is) (rw (length-map, l) at (filter-flatten-length isReach k (map words qs) rows))
-  where
-    words : ℕ → List ℕ
-    words q = rowWords q (f q)
-
-    rows : (ws : List ℕ) → Mem ws (map words qs) → length (filter isReach ws) ≤ k
-    rows ws m =
-        let (q, i, e) = Memᴰ·of-map words qs m in
-        rw (← e) (le-trans (row-reaches q (each q i .0) (f q)) (each q i .1))
+rows-reach x root h f qs j k l each =
+    rw (door x root h .kind-is) (rw l at (flatten-by at-most (by-passing isReach) (λ q. rowWords q (f q)) k qs
+    (λ q i. le-trans (row-reaches q (each q i .0) (f q)) (each q i .1))))
 
 module _ (part : List ℕ) (e : Expr) (small : count e ≤ 15) where
   -- of each door all outside targets with all positions may be reported, from each state
@@ -57,10 +52,7 @@ module _ (part : List ℕ) (e : Expr) (small : count e ≤ 15) where
       node = doors-nodes part (nodeOf w) (Memᴰ·map nodeOf m)
 
   doors-reach : length (filter isReach (flatten (map (doorWords part e (count e)) (filter isDoor part)))) ≤ length (filter isDoor part) * most
-  doors-reach = rw length-map at (filter-flatten-length isReach most (map (doorWords part e (count e)) (filter isDoor part)) each)
-    where
-      each : (ws : List ℕ) → Mem ws (map (doorWords part e (count e)) (filter isDoor part)) → length (filter isReach ws) ≤ most
-      each ws m = let (w, i, q) = Memᴰ·of-map (doorWords part e (count e)) (filter isDoor part) m in rw (← q) (door-reaches w i)
+  doors-reach = flatten-by at-most (by-passing isReach) (doorWords part e (count e)) most (filter isDoor part) door-reaches
 
 -- the header of a file within its limit is no reach word
 header-no-reach : (site n : ℕ) (ws : List ℕ) → site < 16 → n < 16 → length (file 7 site n ws) ≤ replyWords

@@ -1,5 +1,5 @@
 // The calls, under the names that the C host uses. Each has no precondition, and its contract is one equation: what it leaves in number,
-// output and working buffer is what the definition of document 01 or 02 gives. Demand 3 (demands/proofs/Demand.antt) is about these outcomes.
+// outputs and working buffer is what the definition of document 01 or 02 gives. Demand 3 (demands/proofs/Demand.antt) is about these outcomes.
 ghost use mathlib.Core.Path.{_≡_};
 ghost use lib.ListN.{length};
 ghost use Rattle.files.specs.Outcome.{left, leaves};
@@ -9,7 +9,9 @@ ghost use Rattle.hub_calls.specs.CallList.{callListCall};
 ghost use Rattle.hub_join.specs.Join.{joinCall};
 ghost use Rattle.old.specs.Old.{oldSearchCall, oldSearchGroupedCall};
 ghost use Rattle.cutter.specs.Cut.{cutCall};
+ghost use Rattle.dearest.specs.Dearest.{leftBoth, dearestCall};
 use cutter::call::cut;
+use dearest::call::dearest;
 use hub_calls::call::call_list;
 use hub_join::call::join;
 use old::call::old_search;
@@ -139,4 +141,19 @@ pub extern "C" fn mowqachi_second_reply_grouped(
         (length (now (out .entry))) (length (now (work .entry))) ⌝ }
 {
     second_reply_grouped(part, groups, path, calls, out, work)
+}
+
+#[no_mangle]
+pub extern "C" fn mowqachi_dearest(
+    doors: u32,
+    targets: u32,
+    labels: u32,
+    part: &mut [u8],
+    path: &mut [u8],
+    work: &mut [u8],
+) -> u32
+    ensures { λ r. ⌜ leftBoth r (now (part .exit)) (now (path .exit)) (now (work .exit))
+        ≡ dearestCall (length (now (part .entry))) (length (now (path .entry))) (length (now (work .entry))) doors targets labels ⌝ }
+{
+    dearest(doors, targets, labels, part, path, work)
 }

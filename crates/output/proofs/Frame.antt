@@ -2,7 +2,7 @@
 use mathlib.Core.Path.{_≡_, refl, sym, _∙_, ap}
 use mathlib.Core.Bool.{Bool, true, false}
 use mathlib.Core.List.{List, [], _∷_}
-use Prim.Native.Nat.{ℕ, zero, suc, _+_, _-_, _*_, _%_, _^_, _≤_, _<_}
+use Prim.Native.Nat.{ℕ, zero, suc, _-_, _*_, _%_, _^_, _≤_, _<_}
 use native.Mathlib.Omega.{arith}
 use borrow.Author.Tests.{leb-true, leb-false, le-leb, lt-leb}
 use lib.Dec.{leb}
@@ -16,7 +16,7 @@ use Rattle.files.proofs.Checks.{checks, then-iff, then-assoc, refused-first, pa
 use Rattle.files.proofs.Words.{words-length}
 use Rattle.files.specs.Limits.{finalWords, workBytes}
 use Rattle.output.specs.Writer.{Written, Writes, Filed}
-use Rattle.output.specs.Frame.{Check, input, also, _thenAll_, Checked, RoomFor, InputRead, InputsRead, Passed, Closes, Responds, settled}
+use Rattle.output.specs.Frame.{Check, input, also, _thenAll_, Checked, RoomFor, InputRead, InputsRead, Passed, Closes, Responds, withheld, settled}
 use Rattle.output.proofs.Writing.{written-all, written-long, padded-head}
 
 -- The checks, for the proof of a call's `check`
@@ -138,13 +138,21 @@ answer-filed x limit result n {k} {out} {r} c z f = rw (← c, z) (by (leb (leng
 
 -- The call is settled
 
+-- an output: after a refusal it is zero, else as it was answered
+pub withholds : {o : Outcome} {n k : ℕ} (out : List ℕ) {a : List ℕ} → Responds o n out k → length out ≡ n → a ≡ withheld k out → a ≡ leaves o n 0 .output
+unfolding withheld
+withholds {o} {n} {k} out f p e = e ∙ by o k f
+  where
+    by : (o : Outcome) (k : ℕ) → Responds o n out k → withheld k out ≡ leaves o n 0 .output
+    by o zero f = f .output refl
+    by (refused j) (suc k) f = ap zeros p
+    by (accepted ws) (suc k) f = let z : suc k ≡ 0 = f .number in absurd (omega arith)
+
 pub settles : {o : Outcome} {n m k r : ℕ} (out work : List ℕ) {a b : List ℕ} → Responds o n out k → length out ≡ n → length work ≡ m
     → left r a b ≡ settled k out work → left r a b ≡ leaves o n m
 unfolding settled
-settles {o} {n} {m} {k} out work f p q e = e ∙ rw (← q) (by o k f)
+settles {o} {n} {m} out work f p q e = e ∙ rw (withholds out f p refl, f .number, q) (by o)
   where
-    by : (o : Outcome) (k : ℕ) → Responds o n out k → settled k out work ≡ leaves o n (length work)
-    by (refused j) zero f = rw (← f .number) (ap (λ x. left 0 x (zeros (length work))) (f .output refl))
-    by (refused j) (suc k) f = rw (← f .number, p)
-    by (accepted ws) zero f = ap (λ x. left 0 x (zeros (length work))) (f .output refl)
-    by (accepted ws) (suc k) f = let z : suc k ≡ 0 = f .number in absurd (omega arith)
+    by : (o : Outcome) → left (leaves o n 0 .number) (leaves o n 0 .output) (zeros m) ≡ leaves o n m
+    by (refused j) = refl
+    by (accepted ws) = refl

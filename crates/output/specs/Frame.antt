@@ -60,7 +60,11 @@ pub record Responds (o : Outcome) (n : ℕ) (out : List ℕ) (r : ℕ) : Type 0 
   pub number : r ≡ leaves o n 0 .number
   pub output : r ≡ 0 → out ≡ leaves o n 0 .output
 
+-- an output at the end of a call, by the call's number: a refusal zeroes it
+unfoldable pub withheld : ℕ → List ℕ → List ℕ
+withheld zero output = output
+withheld (suc k) output = zeros (length output)
+
 -- the end of every call, by its number: the working buffer is zeroed, and after a refusal the output too
 unfoldable pub settled : ℕ → List ℕ → List ℕ → Left
-settled zero output work = left 0 output (zeros (length work))
-settled (suc k) output work = left (suc k) (zeros (length output)) (zeros (length work))
+settled number output work = left number (withheld number output) (zeros (length work))

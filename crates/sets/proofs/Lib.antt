@@ -1,6 +1,7 @@
 pub mod Tests
 pub mod Cases
 pub mod Sets
+pub mod Sums
 pub mod Filter
 pub mod Lengths
 pub mod Perm

@@ -3,16 +3,16 @@
 -- W, P and cut are one, and their question is run. Assumes nothing.
 use mathlib.Core.Path.{_≡_, refl}
 use mathlib.Core.Bool.{Bool, not, _&&_}
-use mathlib.Core.List.{List, [], _∷_, map, flatten, Memᴰ·of-map}
+use mathlib.Core.List.{List, [], _∷_, map, flatten}
 use Prim.Native.Nat.{ℕ, _^_, _≤_}
 use native.Mathlib.Omega.{arith}
 use lib.Dec.{T, eqb, leb, ltb, ltb→lt, lit≤}
-use lib.ListN.{length, drop, length-map}
+use lib.ListN.{length, drop}
 use Rattle.sets.specs.Sets.{Mem, Perm, any, member, setOf}
 use Rattle.sets.specs.Reach.{closure}
 use Rattle.sets.proofs.Tests.{and-iff, le-iff, eq-iff}
 use Rattle.sets.proofs.Filter.{all-iff}
-use Rattle.sets.proofs.Lengths.{flatten-length}
+use Rattle.sets.proofs.Sums.{at-most, by-length, flatten-by}
 use Rattle.sets.proofs.Perm.{perm-refl, perm-same, perm-length}
 use Rattle.files.specs.Word.{words, bytesOf}
 use Rattle.files.specs.Refuse.{_then_, sizeCheck}
@@ -217,7 +217,7 @@ two-small q u few = record {
     small : (write : List ℕ → List ℕ) (fs : List (List ℕ)) → length fs ≡ length (q .parts) → ((f : List ℕ) → Mem f fs → length (write f) ≤ 4096)
         → length (flatten (map write fs)) ≤ 8192
     small write fs e h =
-        omega (arith, length-map fs write, flatten-length 4096 (map write fs) (λ r m. let (f, i, k) = Memᴰ·of-map write fs m in rw (← k) (h f i)))
+        omega (arith, flatten-by at-most by-length write 4096 fs h)
 
 -- so demand 3 speaks of every question with at most two sites
 pub two-claim : (q : Asked) (u : Put q) → length (q .parts) ≤ 2 → Claim q u (owed q u)

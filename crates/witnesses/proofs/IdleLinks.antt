@@ -5,7 +5,7 @@ use mathlib.Core.Path.{_≡_, refl, sym, _∙_, subst}
 use mathlib.Core.Bool.{Bool, not, _||_}
 use mathlib.Core.Logic.{⊎-elim}
 use mathlib.Core.List.{List, [], _∷_, _++_, map, flatten, List·Memᴰ·append-cases, List·Memᴰ·eq-of-singleton}
-use Prim.Native.Nat.{ℕ, zero, suc, _≤_, _<_}
+use Prim.Native.Nat.{ℕ, _≤_, _<_}
 use native.Mathlib.Omega.{arith}
 use lib.Dec.{T, leb, leb→le, lit≤}
 use lib.ListN.{length, drop, length-map}
@@ -17,7 +17,7 @@ use Rattle.sets.proofs.Filter.{all-iff, not-member-iff}
 use Rattle.sets.proofs.Lengths.{pigeonhole, ascending-distinct}
 use Rattle.sets.proofs.Perm.{perm-refl}
 use Rattle.files.specs.Word.{bytesOf}
-use Rattle.files.specs.Field.{targetOf, reachWord, callWord}
+use Rattle.files.specs.Field.{targetOf, edgeWord, reachWord, callWord}
 use Rattle.files.specs.Groups.{ourGroups}
 use Rattle.files.specs.Outcome.{refused, accepted}
 use Rattle.files.specs.Part.{nodes, roots as rootNodes, edges, partCheck}
@@ -36,6 +36,7 @@ use Rattle.hub_calls.proofs.CallLists.{seeds, called-lists, calls-stray}
 use Rattle.hub_join.specs.Join.{joined, joinCall}
 use Rattle.old.specs.Old.{listed, oldSearchCall}
 use Rattle.cutter.specs.Cut.{cut, cutCall}
+use Rattle.dearest.specs.Dearest.{span, dearPart, dearPath}
 use Rattle.demands.specs.Plant.{Closed, HasEdge, Holds, AcceptedPart, TrueCut, Unwalked, Fits, body}
 use Rattle.demands.specs.PlantOf.{plantOf, partsOf}
 use Rattle.demands.specs.Grouped.{ours, asks}
@@ -45,7 +46,7 @@ use Rattle.demands.proofs.PlantOf.{one-root-of, plant-closed}
 use Rattle.demands.proofs.Owed.{owed}
 use Rattle.table.specs.Table.{whole, path, part0, first0, calls as callsOfW, second0, second1, final, b}
 use Rattle.witnesses.proofs.Asked.{allWords, words-by-test, stays, asked-of, asked-open, exampleRoom, asking, inTurn, two-claim}
-use Rattle.witnesses.proofs.Vectors.{onFirsts, ors, stars, orOf, edgesTo, doorsTo, fullRanges}
+use Rattle.witnesses.proofs.Vectors.{onFirsts}
 use Rattle.witnesses.proofs.Over.{row15, row15-is, row15-over, ranges-accepted}
 use Rattle.witnesses.proofs.TwoSites.{site-accepted}
 use Rattle.witnesses.proofs.BothSearches.{none, joinedList, apart}
@@ -215,7 +216,7 @@ press-idle-claim = two-claim pressIdle (inTurn pressIdle) (lit≤ tt)
 -- row 15's two doors and their nine targets, the ninth of them removed; the doors are linked to by a node to which no walk from the root comes
 abbrev pub removed : List ℕ
 removed =
-    0x1000001f ∷ 0x20000000 ∷ edgesTo 9 ++ 0x20000001 ∷ edgesTo 9
+    0x1000001f ∷ 0x20000000 ∷ map (edgeWord 0) (span 2 9) ++ 0x20000001 ∷ map (edgeWord 0) (span 2 9)
     ++ 0x20030002 ∷ 0x20000003 ∷ 0x20000004 ∷ 0x20000005 ∷ 0x20000006 ∷ 0x20000007 ∷ 0x20000008 ∷ 0x20000009 ∷ 0x30000000 ∷ 0x30000001 ∷ []
 
 abbrev pub twoSites : List ℕ
@@ -231,17 +232,17 @@ pub record Removed : Type 0 where
   pub read : partCheck removed ≡ 0
   pub root-is : rootNodes (body removed) ≡ 2 ∷ []
   pub cuts-read : cutCheck (body removed) twoSites 0 ≡ 0
-  pub inside : T (stays removed fullRanges)
+  pub inside : T (stays removed (dearPath 15))
   pub parts-are : partsOf removed twoSites ≡ row15 ∷ eightTargets ∷ []
 
 pub removed-is : Removed
-unfolding closure flatten stepIn reached fullRanges ors stars orOf edgesTo doorsTo row15 cut
+unfolding closure flatten stepIn reached dearPart dearPath cut
 removed-is = record { word = tt; few = tt; read = refl; root-is = refl; cuts-read = refl; inside = tt; parts-are = refl }
 
 abbrev pub removedAsked : Asked
 removedAsked =
     let r = removed-is in
-    asked-open removed twoSites fullRanges (words-by-test removed (r .word)) (leb→le (length removed) 4096 (r .few)) (r .read) 2 (r .root-is) 0 (r .cuts-read)
+    asked-open removed twoSites (dearPath 15) (words-by-test removed (r .word)) (leb→le (length removed) 4096 (r .few)) (r .read) 2 (r .root-is) 0 (r .cuts-read)
     ranges-accepted ours tt (r .inside)
 
 abbrev pub removedPut : Put removedAsked
@@ -278,8 +279,7 @@ stray-bundles = (refl, refl, refl, refl, refl, refl, refl)
 -- 14 comes before 15: the root's row names 4,093 pairs and another door's row three more, so the call list is over its limit; and most of their nodes
 -- are no doors. The set is too long to be computed, so it is told by a list of some of its pairs.
 unfoldable pub pairsFrom : ℕ → ℕ → List ℕ
-pairsFrom c zero = []
-pairsFrom c (suc n) = c ∷ pairsFrom (suc c) n
+pairsFrom c n = span c n
 
 unfoldable pub far : List ℕ
 far = 0x70f01000 ∷ 0x80010000 ∷ 0x90000000 ∷ map reachWord (pairsFrom 16 4093) ++ 0x71f00006 ∷ 0x80000001 ∷ 0x90000000 ∷ map reachWord (pairsFrom 4109 3)

@@ -2,8 +2,8 @@
 use mathlib.Core.Path.{_≡_, refl}
 use mathlib.Core.Bool.{true, false}
 use mathlib.Core.List.{List, [], _∷_, _++_, map, flatten}
-use Prim.Native.Nat.{ℕ, zero, suc, _+_}
-use lib.ListN.{length, replicate}
+use Prim.Native.Nat.{ℕ, zero, suc}
+use lib.ListN.{replicate}
 use Rattle.sets.specs.Reach.{closure}
 use Rattle.files.specs.Outcome.{Outcome, refused, accepted}
 use Rattle.expressions.specs.Labels.{holds}
@@ -202,22 +202,6 @@ cuts :
     × (cutCall 16384 32768 (b marked) (0 ∷ 0 ∷ 1 ∷ []) 16 ≡ refused 11)
 unfolding flatten cut cutCall marked
 cuts = (refl, refl, refl, refl, refl, refl, refl, refl)
-
--- Row 15: two doors, each linked to the same targets, and a star of an or of 15 full ranges; 9 targets are over the limit, 8 are not
-unfoldable pub edgesTo : ℕ → List ℕ
-edgesTo zero = []
-edgesTo (suc n) = edgesTo n ++ (0x30000002 + n) ∷ []
-
-unfoldable pub doorsTo : ℕ → List ℕ
-doorsTo n = 0x20010000 ∷ edgesTo n ++ 0x20010001 ∷ edgesTo n
-
-unfoldable pub fullRanges : List ℕ
-fullRanges = 0x40f0001f ∷ orOf 0x50fff000 14 ++ stars 1
-
-pub dear : (length (firstReply (0x10000015 ∷ doorsTo 9) fullRanges) ≡ 4355)
-    × (length (firstReply (0x10000013 ∷ doorsTo 8) fullRanges) ≡ 3875)
-unfolding flatten closure stepIn reached reported doorWords firstReply edgesTo doorsTo fullRanges ors stars orOf
-dear = (refl, refl)
 
 -- Of two inputs the first one's number stands: part or whole, cut list, path, call list; and a call list against the path before that against the
 -- part. Each wrong input by itself, then behind another.

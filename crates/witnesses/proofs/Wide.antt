@@ -4,8 +4,8 @@
 use mathlib.Core.Path.{_≡_, refl, ap}
 use mathlib.Core.Bool.{true, false, not}
 use mathlib.Core.Logic.{inl, inr}
-use mathlib.Core.List.{List, [], _∷_, _++_, flatten, List·Memᴰ·append-cases}
-use Prim.Native.Nat.{ℕ, zero, suc}
+use mathlib.Core.List.{List, [], _∷_, _++_, map, flatten, List·Memᴰ·append-cases}
+use Prim.Native.Nat.{ℕ}
 use native.Mathlib.Omega.{arith}
 use lib.Dec.{T, eqb, eqb-refl, lit≤}
 use lib.ListN.{length, getD, length-append, length-map, length-drop}
@@ -26,6 +26,7 @@ use Rattle.walks.specs.Product.{stepIn, reached, answers}
 use Rattle.first_replies.specs.FirstReply.{reported, doorWords, firstReply}
 use Rattle.site_second.specs.Second.{secondReply}
 use Rattle.hub_calls.specs.CallList.{called, callList}
+use Rattle.dearest.specs.Dearest.{span}
 use Rattle.demands.specs.Plant.{HasEdge, Fits, body}
 use Rattle.demands.specs.Question.{Call, going, Answer}
 use Rattle.demands.specs.Demand.{Asked, Put, Right, question, Over, NoneOver, Claim}
@@ -36,8 +37,7 @@ use Rattle.witnesses.proofs.TwoSites.{Site, site-accepted, both, apart,
 
 -- n nodes from x on, no doors and without links
 unfoldable pub lone : ℕ → ℕ → List ℕ
-lone x zero = []
-lone x (suc n) = nodeWord x false false false ∷ lone (suc x) n
+lone x n = map (λ y. nodeWord y false false false) (span x n)
 
 -- Site 0 has the root 0, linked to 3,000 and 3,001, the door 1, linked to 3,002, the door 2, to which nothing links, and 2,997 more nodes. Site 1
 -- has the door 3,000, linked to 0, the stopped door 3,001, linked to 1, the door 3,002, and 2,997 more. So a walk to 3,001, and one by 3,001 and

@@ -1,8 +1,10 @@
 //! Document 01 evaluated, with labels outside a range (request 1), groups that a call is handed (request 3), the length of a first reply
-//! before each door (request 4), links that nobody walks (request 5), stopped nodes (request 7) and eight operands waiting at most (request
-//! 9): every call as a function from bytes and buffer lengths to a refusal or the result's words. It is written from the documents alone, for
-//! plainness and not for speed, and shares no method with the library where they leave a choice.
+//! before each door (request 4), links that nobody walks (request 5), stopped nodes (request 7), eight operands waiting at most (request 9)
+//! and the dearest part and path (request 13): every call as a function from bytes, numbers and buffer lengths to a refusal or the result's
+//! words. It is written from the documents alone, for plainness and not for speed, and shares no method with the library where they leave a
+//! choice.
 
+pub mod dearest;
 pub mod groups;
 pub mod hub;
 pub mod meaning;
@@ -14,6 +16,7 @@ pub mod replies;
 pub mod states;
 pub mod words;
 
+use self::dearest::{check_counts, dearest_files, Counts, Rooms};
 use self::groups::read_groups;
 use self::hub::*;
 use self::part::*;
@@ -23,6 +26,9 @@ use self::replies::*;
 use self::words::*;
 
 pub type Outcome = Result<Vec<u32>, Refusal>;
+
+/// That of a call with two results.
+pub type BothFiles = Result<[Vec<u32>; 2], Refusal>;
 
 /// The lengths of the lent buffers, in bytes.
 #[derive(Clone, Copy, PartialEq, Eq, Debug)]
@@ -114,4 +120,12 @@ pub fn join(bundle: &[u8], room: Room) -> Outcome {
     let files = input("second bundle", read_second_bundle(bundle))?;
     let nodes = files.iter().flat_map(|file| file.nodes.iter().copied()).collect();
     check_result(final_list(&nodes), BUNDLE_LIMIT)
+}
+
+/// The dearest part and path, each for an output of its own.
+pub fn dearest(counts: Counts, [part, path, work]: Rooms) -> BothFiles {
+    input("part's buffers", check_room(Room { out: part, work }, FILE_LIMIT))?;
+    input("path's buffers", check_room(Room { out: path, work }, PATH_LIMIT))?;
+    input("counts", check_counts(counts))?;
+    Ok(dearest_files(counts))
 }

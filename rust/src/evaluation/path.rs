@@ -37,6 +37,22 @@ pub enum Expression {
     Star(Box<Expression>),
 }
 
+impl Expression {
+    /// The words behind the header of a path that is read as this: each operator right behind its operands, and for each position the word
+    /// that `label` has for it.
+    pub fn postfix(&self, label: &dyn Fn(usize) -> u32) -> Vec<u32> {
+        let of = |inner: &Expression| inner.postfix(label);
+        let operator = |sort: u32| vec![OPERATOR << 28 | sort];
+        match self {
+            Expression::Empty => operator(0),
+            Expression::Label(position) => vec![label(*position)],
+            Expression::Then(first, second) => [of(first), of(second), operator(1)].concat(),
+            Expression::Or(first, second) => [of(first), of(second), operator(2)].concat(),
+            Expression::Star(inner) => [of(inner), operator(3)].concat(),
+        }
+    }
+}
+
 #[derive(Clone, Debug)]
 pub struct Path {
     labels: Vec<LabelWord>,

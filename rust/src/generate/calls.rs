@@ -2,6 +2,7 @@
 
 use super::{bundle, damage, groups, path, plant, question};
 use crate::beside::Call;
+use crate::evaluation::dearest::longest_reply;
 use crate::evaluation::groups::Groups;
 use crate::evaluation::part::{Node, Part};
 use crate::evaluation::plant::Plant;
@@ -68,7 +69,7 @@ fn cut(random: &mut Random) -> Call {
 pub type Asked = (Part, Option<Groups>, Vec<u32>);
 
 /// A part of a random true cut of a plant, and a path and groups over the same labels.
-fn asked(random: &mut Random, plant: fn(&mut Random, &[u32]) -> Plant, grouped: bool) -> Asked {
+pub fn asked(random: &mut Random, plant: fn(&mut Random, &[u32]) -> Plant, grouped: bool) -> Asked {
     let alphabet = path::alphabet(random);
     let plant = plant(random, &alphabet);
     let (sites, further) = (random.pick(&[1, 2, 2, 3, 4]), random.pick(&[0, 0, 0, 10, 100]));
@@ -111,7 +112,7 @@ pub fn dearly_asked(random: &mut Random, grouped: bool) -> Asked {
 pub fn asked_for_words(random: &mut Random, words: usize) -> (Part, Vec<u32>) {
     let (doors, n) = (random.between(1, 3), random.between(1, 15));
     let targets = targets_within(words, doors, n).min(3000 / doors);
-    let lone = words - 1 - doors * (1 + (n + 1) * (1 + targets * n));
+    let lone = words - longest_reply(doors, targets, n);
     let mut places: Vec<usize> =
         (0..doors + lone).map(|place| if place < doors { targets } else { 0 }).collect();
     random.shuffle(&mut places);
@@ -193,17 +194,21 @@ pub fn call(random: &mut Random, name: &str) -> Call {
     }
 }
 
-/// Buffers for a call: mostly the least ones, else some around every bound.
-pub fn room(random: &mut Random, call: &Call) -> Room {
-    let least = call.least_room();
-    let around = |random: &mut Random, bound: usize| match random.below(8) {
+/// A length of a buffer around a bound, mostly this itself.
+pub fn around(random: &mut Random, bound: usize) -> usize {
+    match random.below(8) {
         0 => 0,
         1 => bound - 1,
         2 => random.below(bound),
         3 => bound + random.between(1, 3),
         4 => bound + random.below(5000),
         _ => bound,
-    };
+    }
+}
+
+/// Buffers for a call: mostly the least ones, else some around every bound.
+pub fn room(random: &mut Random, call: &Call) -> Room {
+    let least = call.least_room();
     match random.chance(80) {
         true => least,
         false => Room { out: around(random, least.out), work: around(random, least.work) },

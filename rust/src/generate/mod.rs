@@ -1,7 +1,8 @@
-//! Random files, whole questions and damage.
+//! Random files, counts, whole questions and damage.
 
 pub mod bundle;
 pub mod calls;
+pub mod counts;
 pub mod damage;
 pub mod groups;
 pub mod path;

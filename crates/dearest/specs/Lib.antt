@@ -1,0 +1,2 @@
+pub mod Dearest
+pub mod Answer
