@@ -226,9 +226,7 @@ static bool check_part(void)
     bool as_long = false;
     draw_plant(false, labels, LABELS);
     draw_path(MOST_LETTERS, draw_letter);
-    groups.len = 0;
-    for (int g = 0; g < MOWQACHI_GROUP_COUNT; g++)
-        put(&groups, draw_range(labels, LABELS));
+    draw_groups(labels, LABELS);
     struct asked plain = {FIRST_REPLY, {span_of(&plant), span_of(&path)}, {0}}, grouped = with_groups(&plain, span_of(&groups));
     for (int k = 0; k < 2; k++) {
         if (call(k == 0 ? &plain : &grouped, &found) != 0 || words_of(found) > longest())

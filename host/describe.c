@@ -3,6 +3,7 @@
 #include <stdio.h>
 
 #include "mowqachi.h"
+#include "reached.h"
 
 /* What a line needs to know besides its word. */
 struct place {
@@ -10,6 +11,7 @@ struct place {
     struct nodes stopped;   /* the stopped nodes of the part beside it */
     const uint32_t *groups; /* of a path */
     const struct calls *calls;  /* of a bundle of first replies, or NULL */
+    const struct nodes *reached;    /* of a part, or NULL */
     unsigned labels;        /* label words so far */
 };
 
@@ -37,13 +39,14 @@ static void print_label(uint32_t w, const uint32_t *groups)
     }
 }
 
-static void print_part_word(uint32_t w, const struct nodes *own)
+static void print_part_word(uint32_t w, const struct place *place)
 {
+    bool unreached = place->reached != NULL && !has_node(place->reached, node_of(w));
     if (kind_of(w) == NODE)
-        printf("%-12s %u%s%s%s", "node", node_of(w), door_bit(w) ? ", door" : "", root_bit(w) ? ", root" : "",
-               stopped_bit(w) ? ", stopped" : "");
+        printf("%-12s %u%s%s%s%s", "node", node_of(w), door_bit(w) ? ", door" : "", root_bit(w) ? ", root" : "",
+               stopped_bit(w) ? ", stopped" : "", unreached ? ", not reached" : "");
     else
-        printf("%-12s label %u, target %u%s", "edge", label_of(w), node_of(w), has_node(own, node_of(w)) ? "" : ", outside");
+        printf("%-12s label %u, target %u%s", "edge", label_of(w), node_of(w), has_node(&place->own, node_of(w)) ? "" : ", outside");
 }
 
 static void print_reply_word(uint32_t w, const struct place *place)
@@ -74,7 +77,7 @@ static void print_word(uint32_t w, size_t i, struct place *place)
     } else if (kind_of(w) == OPERATOR) {
         printf("%-12s %s", "operator", operators[operator_of(w)]);
     } else if (kind_of(w) == NODE || kind_of(w) == EDGE) {
-        print_part_word(w, &place->own);
+        print_part_word(w, place);
     } else {
         print_reply_word(w, place);
     }
@@ -124,7 +127,7 @@ static void print_lines(struct span s, struct verdict v, line_printer *print_lin
 
 void print_words(struct span s, struct verdict v, const struct beside *beside)
 {
-    struct place place = {.groups = beside->groups, .calls = beside->calls};
+    struct place place = {.groups = beside->groups, .calls = beside->calls, .reached = beside->reached};
     collect(&place.own, s, NODE);
     collect_stopped(&place.stopped, beside->part);
     print_lines(s, v, print_word, &place);
@@ -221,6 +224,72 @@ void print_longest(struct span part, struct span path)
     if (words > MOWQACHI_REPLY_WORDS)
         printf(", over %d", MOWQACHI_REPLY_WORDS);
     printf("\n");
+}
+
+/* The nodes of a set: how many, what it means for them, and which, numbers in a row by their ends. */
+static void print_nodes(const char *name, const char *meaning, const struct nodes *set)
+{
+    const char *mark = ":";
+    size_t count = count_nodes(set);
+    printf("%s %zu%s", name, count, count > 0 ? meaning : "");
+    for (unsigned x = 0; x < MOWQACHI_NODES; x++) {
+        bool low = x == 0 || !has_node(set, x - 1), high = x == MOWQACHI_NODES - 1 || !has_node(set, x + 1);
+        if (has_node(set, x) && low) {
+            printf("%s %u", mark, x);
+            mark = ",";
+        } else if (has_node(set, x) && high) {
+            printf(" to %u", x);
+        }
+    }
+    printf("\n");
+}
+
+void print_reached(struct span part, const struct nodes *reached)
+{
+    struct nodes others;
+    collect(&others, part, NODE);
+    for (size_t k = 0; k < sizeof others.bits; k++)
+        others.bits[k] &= (uint8_t)~reached->bits[k];
+    print_nodes("reached from the doors", ", replies may tell of them", reached);
+    print_nodes("not reached", ", no reply tells of them unless a call list names one", &others);
+}
+
+/* The node whose word i of a part is, or whose edge. */
+static unsigned owner_at(struct span part, size_t i)
+{
+    while (kind_of(word_at(part, i)) != NODE)
+        i--;
+    return node_of(word_at(part, i));
+}
+
+static void print_side(const char *name, const struct side *side, const char *missing)
+{
+    struct place place = {.reached = &side->reached};
+    collect(&place.own, side->part, NODE);
+    printf("%-8s", name);
+    if (side->stands)
+        print_word(word_at(side->part, side->at), side->at, &place);
+    else
+        printf("%s\n", missing);
+}
+
+/* The condition that is proved is enough for the same replies, and no more: parts that do not meet it may have them too. */
+void print_apart(struct span first, struct span second)
+{
+    struct side sides[2];
+    if (!find_difference(first, second, sides)) {
+        printf("no reply tells them apart, unless a call list names a node that is not reached from the doors\n");
+        return;
+    }
+    const struct side *with = &sides[sides[0].stands ? 0 : 1];
+    bool node = kind_of(word_at(with->part, with->at)) == NODE;
+    printf("replies may tell them apart by ");
+    if (with->at == 0)
+        printf("their sites\n");
+    else
+        printf("%s %u\n", node ? "node" : "the edges of node", owner_at(with->part, with->at));
+    print_side("first", &sides[0], node ? "not reached" : "none");
+    print_side("second", &sides[1], node ? "not reached" : "none");
 }
 
 /* The words that call a pair, from the root's door word on. */

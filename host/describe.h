@@ -5,15 +5,17 @@
 #include "checks.h"
 
 /* What is beside a file: the part of the site asked, which may be empty, and the eight groups of a path; or the pairs that are called by a bundle
-   of first replies, which is NULL for other files. */
+   of first replies, or the reached nodes of a part, which are NULL for other files. */
 struct beside {
     struct span part;
     const uint32_t *groups;
     const struct calls *calls;
+    const struct nodes *reached;
 };
 
 /* The words of s, one a line, with the verdict's mark under its word, and a blank line ahead of every further header; calls of nodes that are
-   stopped in the part beside it say so, and reach words to no door of the bundle. Bytes behind the last word are numbered as bytes. */
+   stopped in the part beside it say so, reach words to no door of the bundle, and nodes that are not reached. Bytes behind the last word are
+   numbered as bytes. */
 void print_words(struct span s, struct verdict v, const struct beside *beside);
 /* The words of groups in the same way. */
 void print_groups(struct span s, struct verdict v);
@@ -25,6 +27,10 @@ void print_expression(struct span path);
 void print_counts(struct span part);
 /* How long a first reply to an accepted path can be, of an accepted part or any other with as many doors and outside targets. */
 void print_longest(struct span part, struct span path);
+/* Of which nodes of an accepted part replies may tell, and of which not. */
+void print_reached(struct span part, const struct nodes *reached);
+/* Whether replies may tell two accepted parts apart, and by which words first. */
+void print_apart(struct span first, struct span second);
 /* The words by which a bundle calls a node that is no door, the fewest; where it calls none, how many reach words name one. */
 void print_strays(struct span bundle, const struct calls *calls);
 /* An accepted part as a Graphviz picture. */

@@ -26,9 +26,7 @@ static void draw_question(bool whole)
 {
     draw_plant(whole, labels, LABELS);
     draw_path(MOST_LETTERS, draw_letter);
-    groups.len = 0;
-    for (int g = 0; g < MOWQACHI_GROUP_COUNT; g++)
-        put(&groups, draw_range(labels, LABELS));
+    draw_groups(labels, LABELS);
 }
 
 /* A bit turned, and now and then some bytes short. */

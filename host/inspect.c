@@ -1,5 +1,5 @@
 /* The inspector: a file of document 01, or document 02's groups, word by word, and the first check that fails. Its exit code is the refusal's
-   number, 0 for an accepted file, and 64 where there is nothing to inspect. */
+   number, 0 where all is accepted, and 64 where there is nothing to inspect. */
 #include <ctype.h>
 #include <errno.h>
 #include <stdio.h>
@@ -9,6 +9,7 @@
 #include "checks.h"
 #include "describe.h"
 #include "mowqachi.h"
+#include "reached.h"
 
 enum { NOTHING = 64, MOST_BYTES = 1 << 20, MOST_FILES = 4 };
 
@@ -19,13 +20,15 @@ static const char usage[] =
     "       inspect [--hex] --asked PART [GROUPS] PATH LIST\n"
     "                                              a call list beside the part and path of the site asked\n"
     "       inspect [--hex] --longest PART PATH    how long a first reply can be, by doors, outside targets and labels\n"
+    "       inspect [--hex] --shared PART [PART]   of which nodes replies may tell; whether they may tell two parts apart\n"
     "       inspect [--hex] --dot FILE             a part as a Graphviz picture\n"
     "AS tells what the file should be; without it the header tells:\n"
     "       --part --whole --path --calls --list   one file\n"
     "       --firsts --seconds                     a bundle of replies, checked over all files too\n"
     "       --files                                files one after another, each by itself\n"
     "Without GROUPS a path has our groups.\n"
-    "--hex: the input is text, words in hexadecimal (a cut list: numbers of bytes). FILE may be -, for standard input.\n";
+    "--hex: the input is text, words in hexadecimal (a cut list: numbers of bytes). FILE may be -, for standard input.\n"
+    "The exit code is the first refusal's number, 0 where all is accepted, be two parts alike or not, and 64 where there is nothing to inspect.\n";
 
 static _Noreturn void give_up(const char *what, const char *why)
 {
@@ -86,6 +89,8 @@ static unsigned report_beside(struct span s, struct verdict v, const struct besi
         print_expression(s);
     if (v.number == 0 && kind_of(word_at(s, 0)) == PART)
         print_counts(s);
+    if (beside->reached != NULL)
+        print_reached(s, beside->reached);
     if (beside->calls != NULL)
         print_strays(s, beside->calls);
     print_verdict(v, "word", words_of(s));
@@ -231,6 +236,32 @@ static unsigned as_longest(const struct span *in)
     return 0;
 }
 
+/* What replies may tell of a part. Which nodes are reached can be told of an accepted one alone. */
+static unsigned report_shared(struct span part)
+{
+    struct nodes reached;
+    struct verdict v = check_file(part, PART);
+    bool told = v.number == 0;
+    if (told)
+        find_reached(&reached, part);
+    return report_beside(part, v, &(struct beside){.groups = mowqachi_our_groups, .reached = told ? &reached : NULL});
+}
+
+static unsigned as_shared(const struct span *in)
+{
+    if (in[1].bytes == NULL)
+        return report_shared(in[0]);
+    for (int k = 0; k < 2; k++) {
+        struct verdict v = check_file(in[k], PART);
+        if (v.number != 0) {
+            printf("the %s part:\n", k == 0 ? "first" : "second");
+            return report(in[k], v);
+        }
+    }
+    print_apart(in[0], in[1]);
+    return 0;
+}
+
 /* What an option asks for, and how many files it takes; those that are not given are NULL. */
 static const struct mode {
     const char *option;
@@ -240,6 +271,7 @@ static const struct mode {
     {"--part", 1, 1, as_part}, {"--whole", 1, 1, as_whole}, {"--path", 1, 1, as_path}, {"--calls", 1, 1, as_calls}, {"--list", 1, 1, as_list},
     {"--firsts", 1, 1, as_firsts}, {"--seconds", 1, 1, as_seconds}, {"--files", 1, 1, as_files}, {"--dot", 1, 1, as_picture},
     {"--cut", 2, 2, as_cut}, {"--groups", 1, 2, as_groups}, {"--asked", 3, MOST_FILES, as_asked}, {"--longest", 2, 2, as_longest},
+    {"--shared", 1, 2, as_shared},
 };
 
 static struct mode mode_of(const char *option)

@@ -120,6 +120,13 @@ uint32_t draw_range(const uint32_t *labels, uint32_t count)
     return range(labels[low], labels[high]);
 }
 
+void draw_groups(const uint32_t *labels, uint32_t count)
+{
+    groups.len = 0;
+    for (int g = 0; g < MOWQACHI_GROUP_COUNT; g++)
+        put(&groups, draw_range(labels, count));
+}
+
 void end_path(struct draft *d)
 {
     uint32_t n = 0;

@@ -29,6 +29,8 @@ struct draft without(const struct draft *file, const struct nodes *these, bool l
 uint32_t range(uint32_t low, uint32_t high);
 /* A range with two of the labels given as its ends. */
 uint32_t draw_range(const uint32_t *labels, uint32_t count);
+/* Draws eight groups, each such a range. */
+void draw_groups(const uint32_t *labels, uint32_t count);
 /* Draws a path of at most so many label words, which `letter` draws. */
 void draw_path(uint32_t most, uint32_t (*letter)(void));
 /* Ends a path whose words stand behind the room for its header. */

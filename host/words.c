@@ -69,6 +69,14 @@ bool has_node(const struct nodes *set, unsigned x)
     return set->bits[x / 8] >> x % 8 & 1;
 }
 
+size_t count_nodes(const struct nodes *set)
+{
+    size_t count = 0;
+    for (unsigned x = 0; x < MOWQACHI_NODES; x++)
+        count += has_node(set, x);
+    return count;
+}
+
 void collect(struct nodes *set, struct span s, unsigned kind)
 {
     memset(set, 0, sizeof *set);

@@ -56,6 +56,7 @@ bool holds_none(uint32_t label);
 
 void add_node(struct nodes *set, unsigned x);
 bool has_node(const struct nodes *set, unsigned x);
+size_t count_nodes(const struct nodes *set);
 /* The nodes of the words of one kind. */
 void collect(struct nodes *set, struct span s, unsigned kind);
 

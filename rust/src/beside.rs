@@ -2,6 +2,7 @@
 
 use crate::calls;
 use crate::evaluation::dearest::{Counts, Rooms};
+use crate::evaluation::part::Part;
 use crate::evaluation::words::*;
 use crate::evaluation::{self, BothFiles, Outcome, Room};
 use crate::random::Random;
@@ -99,6 +100,18 @@ impl Call {
         Some(call)
     }
 
+    /// The same call over another part; `None` of one that reads none.
+    pub fn over(&self, other: &Part) -> Option<Call> {
+        let mut call = self.clone();
+        match &mut call {
+            Call::FirstReply { part, .. } | Call::SecondReply { part, .. } => {
+                *part = bytes_of(&other.words());
+            }
+            _ => return None,
+        }
+        Some(call)
+    }
+
     /// The groups, if it is made with any, and the path; `None` of a call that reads no path.
     pub fn groups_and_path(&self) -> Option<(Option<&[u8]>, &[u8])> {
         match self {
@@ -169,6 +182,13 @@ impl Call {
             self.make(given, out.inner_mut(), work.inner_mut())
         });
         assert!(stands, "{}, an input or a guard changed", self.told(room, &left));
+        left
+    }
+
+    /// What both calls leave in buffers of the same lengths. Panics where they differ.
+    pub fn leaves_as(&self, other: &Call, random: &mut Random, room: Room) -> Left {
+        let [left, others] = [self, other].map(|call| call.leaves(random, room));
+        assert!(left == others, "{}\nand of {}", self.told(room, &left), other.told(room, &others));
         left
     }
 

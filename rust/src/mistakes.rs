@@ -1,6 +1,9 @@
 //! Mistakes, each as what is taken for right by a program that makes it: another word, other groups, another rule. The tests fail where none
 //! of their cases would find one out.
 
+pub mod growth;
+pub mod learning;
+
 use crate::beside::Left;
 use crate::evaluation::dearest::{check_counts, dearest_files, Counts, Rooms, LEAST_ROOMS};
 use crate::evaluation::groups::{Groups, OURS};

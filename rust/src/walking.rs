@@ -42,6 +42,12 @@ pub fn walks(question: &Question, path: &Path) -> Walks {
 }
 
 impl Walks {
+    /// The nodes that they come to, ascending.
+    pub fn nodes(&self) -> Vec<u32> {
+        let nodes: BTreeSet<u32> = self.come_to.iter().map(|pair| pair.0).collect();
+        nodes.into_iter().collect()
+    }
+
     fn come(&self, node: u32) -> bool {
         self.come_to.range((node, 0)..(node + 1, 0)).next().is_some()
     }

@@ -7,9 +7,9 @@ use mowqachi_tests::evaluation::words::Refusal;
 use mowqachi_tests::finding::{found_out_by_call, found_out_by_counts};
 use mowqachi_tests::generate::calls::{call, room};
 use mowqachi_tests::generate::counts::{counts, rooms};
+use mowqachi_tests::meeting::meet;
 use mowqachi_tests::mistakes::*;
-use mowqachi_tests::random::{cases, seed, Naming, Random};
-use std::collections::BTreeMap;
+use mowqachi_tests::random::{cases, Random};
 
 type Checks = &'static [(u32, &'static str)];
 
@@ -124,40 +124,28 @@ fn named(refusal: Option<&Refusal>) -> String {
 }
 
 /// What must be met at least once: acceptance, each check of each input, each mistake in reading them.
-fn owed(inputs: Inputs) -> BTreeMap<String, u64> {
+fn owed(inputs: Inputs) -> Vec<String> {
     let checks = inputs.iter().flat_map(|(input, lists)| {
         let list = lists.iter().flat_map(|list| list.iter());
         list.map(|(number, why)| named(Some(&Refusal { number: *number, input, why })))
     });
     let mistakes = mistakes(inputs).into_iter().map(str::to_string);
-    checks.chain(mistakes).chain([named(None)]).map(|what| (what, 0)).collect()
+    checks.chain(mistakes).chain([named(None)]).collect()
 }
 
 /// The mistakes that a call finds out, and why it is refused, if it is.
 type Met = (Vec<&'static str>, Option<Refusal>);
 
 /// Makes this share of the cases, and goes on for a while if something has not been met.
-fn meet(name: &'static str, inputs: Inputs, make: impl Fn(&mut Random) -> Met) {
-    let mut seen = owed(inputs);
-    let wanted = cases() * 8 / 100;
-    let most = wanted + 50_000;
-    let mut made = 0;
-    while made < wanted || made < most && seen.values().any(|count| *count == 0) {
-        let _naming = Naming(name, made);
-        let (found_out, refusal) = make(&mut Random::new(seed(), name, made));
-        for what in found_out.into_iter().map(str::to_string).chain([named(refusal.as_ref())]) {
-            let count = seen.get_mut(&what);
-            *count.unwrap_or_else(|| panic!("{name} refused by a check it has not: {refusal:?}")) += 1;
-        }
-        made += 1;
-    }
-    seen.iter().for_each(|(what, count)| println!("{name:20} {count:7} {what}"));
-    println!("{name:20} {made:7} cases");
-    assert!(seen.values().all(|count| *count > 0), "{name}: something was never met");
+fn share(name: &'static str, inputs: Inputs, make: impl Fn(&mut Random) -> Met) {
+    meet(name, [cases() * 8 / 100, 50_000], owed(inputs), |random| {
+        let (found_out, refusal) = make(random);
+        found_out.into_iter().map(str::to_string).chain([named(refusal.as_ref())]).collect()
+    });
 }
 
 fn run(name: &'static str, inputs: Inputs) {
-    meet(name, &[&[("buffers", &[ROOM][..])], inputs].concat(), |random| {
+    share(name, &[&[("buffers", &[ROOM][..])], inputs].concat(), |random| {
         let call = call(random, name);
         let room = room(random, &call);
         let outcome = call.check(random, room);
@@ -218,7 +206,7 @@ fn join() {
 #[test]
 fn dearest() {
     let buffers = [("part's buffers", &[ROOM][..]), ("path's buffers", &[ROOM_BESIDE])];
-    meet("dearest", &[&buffers[..], &[("counts", &[NUMBERS])]].concat(), |random| {
+    share("dearest", &[&buffers[..], &[("counts", &[NUMBERS])]].concat(), |random| {
         let (counts, rooms) = (counts(random), rooms(random));
         let outcome = check_dearest(random, counts, rooms);
         (found_out_by_counts(counts, rooms, &outcome), outcome.err())

@@ -14,8 +14,9 @@ use mowqachi_tests::generate::calls::{asked, dearly_asked, Asked};
 use mowqachi_tests::generate::counts::wrapping;
 use mowqachi_tests::generate::path::{or_of, range, OR, STAR, THEN};
 use mowqachi_tests::generate::plant::some_plant;
+use mowqachi_tests::meeting::meet;
 use mowqachi_tests::mistakes::{in_dearest_files, names, Named};
-use mowqachi_tests::random::{cases, seed, Naming, Random};
+use mowqachi_tests::random::{cases, seed, Random};
 use mowqachi_tests::written::{bytes, path_of, words};
 use std::collections::{BTreeMap, BTreeSet};
 
@@ -319,11 +320,7 @@ const SORTS: [Named<fn(&Asked) -> bool>; 7] = [
 /// Goes on for a while if one of the sorts has not been met with the longest reply of its counts.
 #[test]
 fn no_reply_is_longer() {
-    let mut met: BTreeMap<&str, u64> = names(&SORTS, |_| true).into_iter().map(|sort| (sort, 0)).collect();
-    let (mut case, mut reached, wanted) = (0, 0, cases() / 5);
-    while case < wanted || case < wanted + 20_000 && met.values().any(|count| *count == 0) {
-        let _naming = Naming("no reply is longer", case);
-        let random = &mut Random::new(seed(), "no reply is longer", case);
+    meet("no reply is longer", [cases() / 5, 20_000], names(&SORTS, |_| true), |random| {
         let grouped = random.chance(50);
         let asked = match random.chance(5) {
             true => dearly_asked(random, grouped),
@@ -331,14 +328,7 @@ fn no_reply_is_longer() {
         };
         let path = read_path(&bytes_of(&asked.2), &asked.1.unwrap_or(OURS)).expect("a path");
         let ([doors, targets, labels], length) = held(&asked.0, &path);
-        if doors > 0 && targets > 0 && length == longest_reply(doors, targets, labels) {
-            reached += 1;
-            for sort in names(&SORTS, |sort| sort(&asked)) {
-                *met.entry(sort).or_insert(0) += 1;
-            }
-        }
-        case += 1;
-    }
-    println!("the longest reply of its counts: {reached} of {case}, {met:?}");
-    assert!(met.values().all(|count| *count > 0), "no reply of one sort was the longest: {met:?}");
+        let longest = doors > 0 && targets > 0 && length == longest_reply(doors, targets, labels);
+        names(&SORTS, |sort| longest && sort(&asked))
+    });
 }

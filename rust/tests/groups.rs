@@ -5,11 +5,11 @@ use mowqachi_tests::beside::Call;
 use mowqachi_tests::evaluation::groups::{Groups, OURS};
 use mowqachi_tests::evaluation::words::bytes_of;
 use mowqachi_tests::evaluation::Room;
-use mowqachi_tests::generate::calls::{call, room};
+use mowqachi_tests::generate::calls::{any_room, call};
 use mowqachi_tests::generate::path::{group, or_of, outside, range, STAR};
-use mowqachi_tests::random::{cases, seed, Naming, Random};
+use mowqachi_tests::meeting::meet;
+use mowqachi_tests::random::cases;
 use mowqachi_tests::written::*;
-use std::collections::BTreeSet;
 
 /// A press maker's: 5, 6, 5 to 6, all, 0, 2048 to 4095, 5 again, 4095.
 const PRESS: Groups =
@@ -209,22 +209,13 @@ fn a_path_is_checked_as_it_is_handed_in() {
 
 /// With our groups a call leaves what it leaves without, for all bytes and buffer lengths. All its numbers must have been met.
 fn same_with_ours(name: &'static str, numbers: &[u32]) {
-    let (mut case, wanted, mut met) = (0, cases() * 2 / 100, BTreeSet::new());
-    while case < wanted || case < wanted + 20_000 && met.len() < numbers.len() {
-        let _naming = Naming("ours", case);
-        let mut random = Random::new(seed(), "ours", case);
-        let call = call(&mut random, name).with(None).expect("it reads a path");
-        let room = match random.chance(70) {
-            true => room(&mut random, &call),
-            false => Room { out: random.below(40_000), work: random.below(40_000) },
-        };
-        let left = call.leaves(&mut random, room);
-        let with_ours = grouped(&call, &bytes_of(&OURS)).leaves(&mut random, room);
-        assert!(left == with_ours, "{}, and {} with our groups", call.told(room, &left), with_ours.number);
-        met.insert(left.number);
-        case += 1;
-    }
-    assert_eq!(met, numbers.iter().copied().collect(), "{name}: the numbers that were met");
+    let named = |number: &u32| format!("{name}: {number}");
+    meet("ours", [cases() * 2 / 100, 20_000], numbers.iter().map(named), |random| {
+        let call = call(random, name).with(None).expect("it reads a path");
+        let room = any_room(random, &call);
+        let left = call.leaves_as(&grouped(&call, &bytes_of(&OURS)), random, room);
+        vec![named(&left.number)]
+    });
 }
 
 #[test]

@@ -1,21 +1,27 @@
 //! The evaluation's own meaning of label words and expressions, by methods that must agree, and what it takes for a true cut.
 
 use mowqachi_tests::evaluation::groups::{Groups, OURS};
+use mowqachi_tests::evaluation::learning::{alike, only, reached};
 use mowqachi_tests::evaluation::meaning::{
     listed_by_flow, listed_by_relation, stepped_on_by_flow, stepped_on_by_relation,
 };
 use mowqachi_tests::evaluation::part::Part;
 use mowqachi_tests::evaluation::path::{read_path, Expression, Path};
-use mowqachi_tests::evaluation::plant::Plant;
+use mowqachi_tests::evaluation::plant::{links_of, Plant};
+use mowqachi_tests::evaluation::relation::Relation;
 use mowqachi_tests::evaluation::states::States;
 use mowqachi_tests::evaluation::words::{bytes_of, kind, LABEL};
 use mowqachi_tests::finding::found_out_by_path;
+use mowqachi_tests::generate::calls::asked;
 use mowqachi_tests::generate::groups::{grouped, groups, naming};
 use mowqachi_tests::generate::path::{alphabet, label_word, or_of, path};
+use mowqachi_tests::generate::plant::some_plant;
 use mowqachi_tests::generate::question::small;
+use mowqachi_tests::meeting::meet;
 use mowqachi_tests::mistakes::{GROUPS, OUTSIDE};
 use mowqachi_tests::random::{cases, seed, Random};
 use std::collections::BTreeSet;
+use std::slice::from_ref;
 
 /// An expression that may have no word, for derivatives.
 type Derived = Option<Expression>;
@@ -190,6 +196,27 @@ fn lists() {
             .map(|stepped_on| stepped_on(&path, &links, root, &further));
         assert_eq!(by_relation, by_flow);
     }
+}
+
+/// What is reached from the doors, by the closure of the links inside a part.
+#[test]
+fn reached_nodes() {
+    let sorts = ["a reached node that is no door", "a node that is not reached"];
+    meet("reached nodes", [cases() * 2 / 100, 10_000], sorts, |random| {
+        let part = asked(random, some_plant, false).0;
+        let place = |number: u32| part.nodes.iter().position(|node| node.number == number);
+        let mut links = Relation::none(part.nodes.len());
+        for (source, _, target) in links_of(from_ref(&part)) {
+            place(source).zip(place(target)).into_iter().for_each(|(from, to)| links.add(from, to));
+        }
+        let (closed, all) = (links.star(), 0..part.nodes.len());
+        let leads = |at: &usize| all.clone().any(|door| part.nodes[door].door && closed.has(door, *at));
+        let owed: BTreeSet<u32> = all.clone().filter(leads).map(|at| part.nodes[at].number).collect();
+        assert_eq!(reached(&part), owed, "{part:x?}");
+        assert!(alike(&part, &only(&part, &owed)), "{part:x?}");
+        let held = [owed.len() > part.doors().count(), owed.len() < part.nodes.len()];
+        sorts.into_iter().zip(held).filter(|(_, held)| *held).map(|(sort, _)| sort).collect()
+    });
 }
 
 /// One node of one part changed, so that the parts are no true cut any more; false where this node cannot be changed so.

@@ -1,21 +1,23 @@
 //! Demand 3: whole questions over random plants, true cuts, paths, groups and orders, run by the library and held to the evaluation. Plants
 //! and parts may have links that end nowhere, walked or not.
 
+use mowqachi_tests::asking::{made, old_search, one_file, run, Run};
 use mowqachi_tests::beside::{answer, Call};
 use mowqachi_tests::evaluation::groups::Groups;
-use mowqachi_tests::evaluation::hub::read_first_bundle;
+use mowqachi_tests::evaluation::hub::{call_list, nodes_of, read_first_bundle};
 use mowqachi_tests::evaluation::part::Part;
 use mowqachi_tests::evaluation::path::Path;
 use mowqachi_tests::evaluation::plant::Plant;
-use mowqachi_tests::evaluation::replies::{first_reply_words, pair_word, second_reply_words, Pair};
+use mowqachi_tests::evaluation::replies::{first_reply_words, second_reply_words, Pair};
 use mowqachi_tests::evaluation::words::*;
+use mowqachi_tests::evaluation::Outcome;
 use mowqachi_tests::finding::{found_out_by_bundle, found_out_by_path};
-use mowqachi_tests::generate::plant::node;
 use mowqachi_tests::generate::question::{question, Question};
+use mowqachi_tests::meeting::meet;
 use mowqachi_tests::mistakes::{names, ByTrip, GROUPS, OUTSIDE, STRAYS, TRIPS};
-use mowqachi_tests::random::{cases, seed, Naming, Random};
+use mowqachi_tests::random::{cases, Random};
 use mowqachi_tests::walking::{idle, strays, walks, without_strays, IDLE};
-use std::collections::{BTreeMap, BTreeSet};
+use std::collections::BTreeSet;
 
 /// How a question may end, and what must have been asked about.
 const ENDS: [&str; 11] = [
@@ -40,24 +42,6 @@ const IGNORED: [[&str; 2]; 3] = [
     ["stopped node inside a part listed", "stopped node inside a part left"],
 ];
 
-/// The groups and the path that the question's calls are handed.
-fn handed(question: &Question) -> (Option<Vec<u8>>, Vec<u8>) {
-    (question.groups.map(|groups| bytes_of(&groups)), bytes_of(&question.path))
-}
-
-/// The library's number and words, held to the evaluation's.
-fn made(random: &mut Random, call: Call) -> Result<Vec<u32>, Refusal> {
-    let room = call.least_room();
-    call.check(random, room)
-}
-
-/// The files, each once, in any order.
-fn bundle(random: &mut Random, files: &[Vec<u32>]) -> Vec<u8> {
-    let mut order: Vec<&Vec<u32>> = files.iter().collect();
-    random.shuffle(&mut order);
-    order.into_iter().flat_map(|file| bytes_of(file)).collect()
-}
-
 /// The bound on traffic: reach words of a first reply by doors, outside targets and n.
 fn check_traffic(part: &Part, n: usize, reply: &[u32]) {
     let reach = reply.iter().filter(|word| kind(**word) == REACH).count();
@@ -71,26 +55,17 @@ fn over_by_strays(question: &Question, part: &Part, path: &Path) -> bool {
     without.len() <= FILE_LIMIT && question.plant.walked(path, &strays(question)).is_empty()
 }
 
-fn first_trip(random: &mut Random, question: &Question, path: &Path) -> Result<Vec<Vec<u32>>, &'static str> {
-    let mut replies = vec![];
-    for part in &question.parts {
-        let (groups, path_bytes) = handed(question);
-        let call = Call::FirstReply { part: bytes_of(&part.words()), groups, path: path_bytes };
-        match made(random, call) {
-            Ok(reply) => {
-                check_traffic(part, path.n(), &reply);
-                replies.push(reply);
-            }
-            Err(refusal) => {
-                assert_eq!(refusal.number, 15);
-                return Err(match over_by_strays(question, part, path) {
-                    true => "first reply over its limit by links that nobody walks",
-                    false => "first reply over its limit",
-                });
-            }
+/// Each first reply is within the bound on traffic, and one is refused only with 15.
+fn check_firsts(question: &Question, path: &Path, run: &Run, number: u32) -> Result<(), &'static str> {
+    let replied = question.parts.iter().zip(&run.firsts);
+    replied.for_each(|(part, reply)| check_traffic(part, path.n(), reply));
+    match question.parts.get(run.firsts.len()) {
+        None => Ok(()),
+        Some(part) if over_by_strays(question, part, path) => {
+            refused(number, 15, "first reply over its limit by links that nobody walks")
         }
+        Some(_) => refused(number, 15, "first reply over its limit"),
     }
-    Ok(replies)
 }
 
 /// The call list that the hub owes, however long, and whether it has pairs where no node is: just if some part has a link that ends nowhere
@@ -102,25 +77,22 @@ fn owed_calls(question: &Question, path: &Path) -> (Vec<u32>, bool) {
         crossings.iter().map(|pair| pair.0).filter(|node| !question.plant.nodes.contains_key(node));
     let ends: BTreeSet<u32> = walked.iter().map(|link| link.2).collect();
     assert_eq!(no_nodes.collect::<BTreeSet<_>>(), ends, "where no node is");
-    let words: Vec<u32> = crossings.iter().map(|pair| pair_word(CALL, *pair)).collect();
-    (file(CALLS, 0, path.n() as u32, &words), !walked.is_empty())
+    (call_list(path.n() as u32, &crossings), !walked.is_empty())
 }
 
 /// The hub's answer to a bundle within its limit: 14 exactly if a link that ends nowhere is walked; else the list that is owed, or 15 for it.
-fn call_list(
-    random: &mut Random,
+fn check_calls(
     question: &Question,
     path: &Path,
-    replies: &[Vec<u32>],
+    bundle: &[u8],
+    outcome: &Outcome,
     noted: &mut Vec<&'static str>,
-) -> Result<Vec<u32>, &'static str> {
-    let bundle = bundle(random, replies);
-    let outcome = made(random, Call::CallList { bundle: bundle.clone() });
-    let (number, list) = answer(&outcome);
+) -> Result<(), &'static str> {
+    let (number, list) = answer(outcome);
     if bundle.len() > 4 * BUNDLE_LIMIT {
         return refused(number, 2, "first bundle over its limit");
     }
-    noted.extend(found_out_by_bundle(&bundle, &outcome));
+    noted.extend(found_out_by_bundle(bundle, outcome));
     let (owed, walked) = owed_calls(question, path);
     match (walked, owed.len() > FILE_LIMIT) {
         (true, true) => refused(number, 14, "a walked link ends nowhere, call list over its limit"),
@@ -128,8 +100,8 @@ fn call_list(
         (false, true) => refused(number, 15, "call list over its limit"),
         (false, false) => {
             assert_eq!((number, &list), (0, &owed));
-            noted.extend(idle(question, path, &read_first_bundle(&bundle).expect("honest replies")));
-            Ok(list)
+            noted.extend(idle(question, path, &read_first_bundle(bundle).expect("honest replies")));
+            Ok(())
         }
     }
 }
@@ -140,35 +112,16 @@ fn refused<T>(number: u32, due: u32, end: &'static str) -> Result<T, &'static st
     Err(end)
 }
 
-fn second_trip(random: &mut Random, question: &Question, calls: &[u32]) -> Vec<Vec<u32>> {
-    let mut reply = |part: &Part| {
-        let ((groups, path), [part, calls]) = (handed(question), [&part.words()[..], calls].map(bytes_of));
-        let call = Call::SecondReply { part, groups, path, calls };
-        made(random, call).expect("second replies have no limit to pass")
-    };
-    question.parts.iter().map(&mut reply).collect()
-}
-
-/// The plant as one file, if it fits.
-fn one_file(plant: &Plant) -> Option<Vec<u32>> {
-    let nodes = plant.nodes.keys().map(|number| node(plant, *number, false));
-    let whole = Part { site: 0, nodes: nodes.collect() };
-    Some(whole.words()).filter(|words| words.len() <= FILE_LIMIT)
-}
-
 /// The old search gives the same list for the plant with the links that end nowhere left out. With them it gives 8, and so does the cutter.
 fn check_old(random: &mut Random, question: &Question, list: &[u32]) {
-    let ((groups, path), plant) = (handed(question), &question.plant);
-    let mut old_search = |whole: &[u32]| {
-        let call = Call::OldSearch { whole: bytes_of(whole), groups: groups.clone(), path: path.clone() };
-        answer(&made(random, call))
-    };
+    let plant = &question.plant;
     if let Some(whole) = one_file(&plant.left_out()) {
-        assert_eq!(old_search(&whole), (0, list.to_vec()), "the old search's list");
+        let given = answer(&old_search(random, question, &whole));
+        assert_eq!(given, (0, list.to_vec()), "the old search's list");
     }
     let open = plant.links().iter().any(|link| plant.ends_nowhere(link));
     if let Some(whole) = one_file(plant).filter(|_| open) {
-        assert_eq!(old_search(&whole).0, 8);
+        assert_eq!(answer(&old_search(random, question, &whole)).0, 8);
         let cut = Call::Cut { whole: bytes_of(&whole), cuts: vec![0; plant.nodes.len()], site: 0 };
         assert_eq!(answer(&made(random, cut)).0, 8);
     }
@@ -197,8 +150,7 @@ fn ignored(plant: &Plant, path: &Path, calls: &[u32], list: &[u32]) -> Vec<&'sta
             continue;
         }
         let more = Plant { stopped, ..plant.clone() }.search(path);
-        let besides = more[1..].iter().filter(|answer| list[1..].binary_search(answer).is_err());
-        let besides: BTreeSet<u32> = besides.map(|answer| bits(*answer, 15, 0)).collect();
+        let besides = &nodes_of(&more) - &nodes_of(list);
         found.extend((!besides.is_disjoint(&some)).then_some(names[0]));
         found.extend((!besides.is_subset(&some)).then_some(names[1]));
     }
@@ -232,64 +184,59 @@ fn ask(
 ) -> Result<&'static str, &'static str> {
     let path = question.read_path();
     assert!(question.plant.is_cut_into(&question.parts), "questions have true cuts");
-    let firsts = first_trip(random, question, &path)?;
-    let calls = call_list(random, question, &path, &firsts, noted)?;
-    let seconds = second_trip(random, question, &calls);
-    let bundle = bundle(random, &seconds);
-    let over = bundle.len() > 4 * BUNDLE_LIMIT;
-    let joined = made(random, Call::Join { bundle });
-    if over {
-        assert_eq!(joined.expect_err("the bundle is too long").number, 2);
-        return Err("second bundle over its limit");
+    let (run, outcome) = run(random, question);
+    let number = answer(&outcome).0;
+    check_firsts(question, &path, &run, number)?;
+    let hub = run.calls.clone().map_or(outcome.clone(), Ok);
+    check_calls(question, &path, &run.first_bundle, &hub, noted)?;
+    assert_eq!(run.seconds.len(), question.parts.len(), "second replies have no limit to pass");
+    if run.second_bundle.len() > 4 * BUNDLE_LIMIT {
+        return refused(number, 2, "second bundle over its limit");
     }
-    let list = joined.expect("honest replies join");
-    check_list(random, question, &path, &list, &seconds);
-    noted.extend(ignored(&question.plant, &path, &calls, &list));
+    let list = outcome.expect("honest replies join");
+    check_list(random, question, &path, &list, &run.seconds);
+    noted.extend(ignored(&question.plant, &path, &hub.expect("a call list"), &list));
     let by_list = |path: &Path| question.plant.search(path);
     noted.extend(found_out_by_path(&question.path, question.groups, &list, by_list));
     noted.extend(trips(question, &list));
+    Ok(joined(question))
+}
+
+/// The end of a question that has a list.
+fn joined(question: &Question) -> &'static str {
     let crossed: BTreeSet<u32> = question.parts.iter().flat_map(Part::outside_targets).collect();
     let further = |part: &Part| part.doors().any(|door| !door.root && !crossed.contains(&door.number));
-    Ok(match () {
+    match () {
         () if one_file(&question.plant).is_none() => "joined, plant over one file",
         () if question.parts.len() == 16 => "joined, sixteen sites",
         () if question.parts.iter().any(further) => "joined, further doors",
         () => "joined",
-    })
+    }
 }
 
 /// Makes this share of the cases, and goes on for a while if something has not been met.
-fn run(stream: &'static str) {
+fn questions(stream: &'static str) {
     let in_words = [names(&OUTSIDE, |_| true), names(&GROUPS, |_| true), names(&TRIPS, |_| true)].concat();
     let mistakes = [in_words, names(&STRAYS, |_| true)].concat();
     let held = IGNORED.iter().flatten().chain(&IDLE);
-    let mut seen: BTreeMap<&str, u64> =
-        ENDS.iter().chain(held).chain(&mistakes).map(|what| (*what, 0)).collect();
-    let wanted = cases() * 6 / 100;
-    let mut made = 0;
-    while made < wanted || made < wanted + 20_000 && seen.values().any(|count| *count == 0) {
-        let _naming = Naming(stream, made);
-        let mut random = Random::new(seed(), stream, made);
-        let question = question(&mut random);
+    let owed = ENDS.iter().chain(held).chain(&mistakes).copied();
+    meet(stream, [cases() * 6 / 100, 20_000], owed, |random| {
+        let question = question(random);
         let mut met = vec![];
-        let end = ask(&mut random, &question, &mut met).unwrap_or_else(|end| end);
+        let end = ask(random, &question, &mut met).unwrap_or_else(|end| end);
         met.push(end);
-        met.into_iter().for_each(|what| *seen.get_mut(what).expect("one of these") += 1);
-        made += 1;
-    }
-    seen.iter().for_each(|(what, count)| println!("{stream} {count:7} {what}"));
-    println!("{stream} {made:7} cases");
-    assert!(seen.values().all(|count| *count > 0), "something was never met");
+        met
+    });
 }
 
 // Two tests, so that two cores share them.
 
 #[test]
 fn questions_a() {
-    run("questions a");
+    questions("questions a");
 }
 
 #[test]
 fn questions_b() {
-    run("questions b");
+    questions("questions b");
 }

@@ -5,7 +5,7 @@ use mathlib.Core.List.{List, [], _∷_, map, flatten, Memᴰ·map, List·Memᴰ�
 use Prim.Native.Nat.{ℕ, _≤_, _<_}
 use native.Mathlib.Omega.{arith}
 use lib.ListN.{length, drop, getD, length-map}
-use Rattle.sets.specs.Sets.{Mem, here, _⊆_, Perm, Lists, setOf}
+use Rattle.sets.specs.Sets.{Mem, here, Perm, Lists, setOf}
 use Rattle.sets.proofs.Sets.{flatten-map-iff, lists-iff, setOf-lists}
 use Rattle.sets.proofs.Perm.{perm-same, perm-length, perm-of-map}
 use Rattle.files.specs.Word.{bytesOf}
@@ -16,6 +16,7 @@ use Rattle.files.specs.Part as part
 use Rattle.files.specs.Path.{pathCheck}
 use Rattle.files.specs.Reply.{replyCheck, doors, roots, rows}
 use Rattle.files.specs.Answers.{answersOf, answersCheck}
+use Rattle.files.proofs.Blocks.{doors-nodes}
 use Rattle.files.proofs.Checks.{outcome-gives, outcome-over}
 use Rattle.files.proofs.Files.{files-length}
 use Rattle.files.proofs.Bundles.{Replies, Firsts, Seconds, firsts-accepted, seconds-accepted, made-words}
@@ -33,9 +34,9 @@ use Rattle.hub_calls.proofs.CallLists as calls
 use Rattle.hub_join.proofs.Joining as join
 use Rattle.demands.specs.Plant.{Words, body}
 use Rattle.demands.specs.Grouped.{asks, firstCall, secondCall}
-use Rattle.demands.specs.Demand.{Asked, Enough}
-use Rattle.demands.proofs.Comes.{Ends, unwalked-ends}
-use Rattle.demands.proofs.Cross.{Called, called-door, called-home, called-reach}
+use Rattle.demands.specs.Demand.{Asked, NoneWalked, Enough}
+use Rattle.demands.proofs.Comes.{Ends, unwalked-ends, ends-unwalked}
+use Rattle.demands.proofs.Cross.{Called, called-door, called-home, called-reach, called-ends}
 use Rattle.demands.proofs.Grouping.{asks-checked, asks-head, first-asked, second-asked, unwalked-asked}
 use Rattle.demands.proofs.Host.{Sized, file-sized, made-sized}
 use Rattle.demands.proofs.Bundles.{cut-perm, firsts-made, first-doors, first-root, first-bundle, first-rows-iff, seconds-made, second-answers, second-bundle}
@@ -75,9 +76,13 @@ module _ (q : Asked) where
   pub small : count e ≤ 15
   small = path-small path path-read
 
-  -- no walk takes a link that ends nowhere
-  pub part-ends : (f : List ℕ) → Mem f (q .parts) → Ends (q .plant) e f
-  part-ends = unwalked-ends (q .plant) (q .parts) e (q .cut) (unwalked-asked (q .plant) (q .parts) (q .groups) (q .path) (q .groups-accepted) .1 (q .unwalked))
+  -- where no walk takes a link that ends nowhere, the parts' edges end at nodes of the plant, as far as walks come to them; and only there
+  pub none-ends : NoneWalked q ↔ ((f : List ℕ) → Mem f (q .parts) → Ends (q .plant) e f)
+  none-ends =
+      let a = unwalked-asked (q .plant) (q .parts) (q .groups) (q .path) (q .groups-accepted) in (
+        λ none. unwalked-ends (q .plant) (q .parts) e (q .cut) (a .1 none),
+        λ ends. a .0 (ends-unwalked (q .plant) (q .parts) e ends),
+      )
 
   -- Demand 3, the first calls
   pub first-call : (out work : ℕ) → Enough 4096 out work → (f : List ℕ) → Mem f (q .parts)
@@ -93,7 +98,7 @@ module _ (q : Asked) where
     pub word : Words (flatten order)
     pub some : 0 < length (flatten order)
     pub root-is : roots (flatten order) ≡ q .one-root .root ∷ []
-    pub doors-have : (f : List ℕ) → Mem f (q .parts) → part.doors (body f) ⊆ doors (flatten order)
+    pub doors-iff : (x : ℕ) → Mem x (doors (flatten order)) ↔ ((f : List ℕ) × Mem f (q .parts) × Mem x (part.doors (body f)))
     pub rows-iff : (c d : ℕ) → Mem d (rows (flatten order) c)
         ↔ ((f : List ℕ) × Mem f (q .parts) × Mem (pairNode c) (part.doors (body f)) × Mem d (reported (body f) e (pairNode c) (pairState c)))
 
@@ -109,8 +114,10 @@ module _ (q : Asked) where
         word = made-words 7 replyCheck n write parts (c .sites) (firsts-made (q .plant) parts c path path-read s);
         some = bundle-some 7 replyCheck n (map write parts) (b .replies) (omega (arith, length-map parts write, perm-length r, q .some-part));
         root-is = first-root (q .plant) parts c path path-read s (q .one-root);
-        doors-have = λ f m x d. rw (first-doors (q .plant) parts c path path-read s)
-            (flatten-map-iff (λ f. part.doors (body f)) x parts .1 (f, perm-same r .1 f m, d));
+        doors-iff = λ x. let i = flatten-map-iff (λ f. part.doors (body f)) x parts in rw (first-doors (q .plant) parts c path path-read s) (
+          λ m. let k = i .0 m in (k .0, perm-same r .0 (k .0) (k .1), k .2),
+          λ k. i .1 (k .0, perm-same r .1 (k .0) (k .1), k .2),
+        );
         rows-iff = λ a d. let i = first-rows-iff (q .plant) parts c path path-read s (q .one-root) a d in (
           λ m. let k = i .0 m in (k .0, perm-same r .0 (k .0) (k .1), k .2, k .3),
           λ k. i .1 (k .0, perm-same r .1 (k .0) (k .1), k .2, k .3),
@@ -122,15 +129,21 @@ module _ (q : Asked) where
     called-is : (c : ℕ) → Mem c (called (flatten order)) ↔ Called (q .one-root .root) (q .parts) e c
     called-is c =
         let l = calls.called-lists (flatten order) in
-        let r = called-reach (q .plant) (q .parts) (q .cut) (q .one-root) e small part-ends (rows (flatten order)) (calls.seeds (flatten order))
+        let r = called-reach (q .plant) (q .parts) (q .cut) (q .one-root) e small (rows (flatten order)) (calls.seeds (flatten order))
         (λ c. rw (g .root-is) (λ m. List·Memᴰ·eq-of-singleton m, λ i. here i)) (g .rows-iff) c in
         (λ m. r .0 (l .sound c m), λ k. l .complete c (r .1 k))
 
-    -- each called pair names a door, so 14 is not given
-    called-doors : strayCheck (flatten order) ≡ 0
-    called-doors = calls.stray-iff (flatten order) .1 (λ c m.
-        let (f, i, d) = called-home (q .plant) (q .parts) (q .cut) (q .one-root) e small part-ends (called-is c .0 m) in
-        g .doors-have f i (pairNode c) d)
+    -- 14 is given exactly if a walk can take a link that ends nowhere: where none can, each called pair names a door; and where each does, the nodes
+    -- that are called are nodes of the plant
+    pub stray-none : (strayCheck (flatten order) ≡ 0) ↔ NoneWalked q
+    stray-none =
+        let s = calls.stray-iff (flatten order) in (
+          λ z. none-ends .1 (called-ends (q .plant) (q .parts) (q .cut) (q .one-root) e small (λ c k.
+              let (f, m, d) = g .doors-iff (pairNode c) .0 (s .0 z c (called-is c .1 k)) in
+              q .cut .holds f m .is-node (pairNode c) (doors-nodes (body f) (pairNode c) d))),
+          λ none. s .1 (λ c m. g .doors-iff (pairNode c) .1
+              (called-home (q .plant) (q .parts) (q .cut) (q .one-root) e small (none-ends .0 none) (called-is c .0 m))),
+        )
 
     -- the called pairs of a site are those of its nodes
     pub called-iff : (f : List ℕ) (c : ℕ)
@@ -141,10 +154,10 @@ module _ (q : Asked) where
         (λ m. let k = i .0 m in (called-is c .0 (rw p at (k .0)), k .1), λ k. i .1 (rw p (called-is c .1 (k .0)), k .1))
 
     -- Demand 3, the hub's call
-    pub hub-call : length (flatten order) ≤ 8192 → (out work : ℕ) → Enough 4096 out work
+    pub hub-call : NoneWalked q → length (flatten order) ≤ 8192 → (out work : ℕ) → Enough 4096 out work
         → Owes (callListCall out work (bytesOf (flatten order))) 4096 (callList (flatten order))
-    hub-call l out work r = owes (callListCall out work (bytesOf (flatten order))) 4096 (callList (flatten order))
-        (calls.calls-outcome out work (flatten order) (r .0) (r .1) (g .word) (g .some) l (firsts-accepted n order (g .bundle)) called-doors)
+    hub-call none l out work r = owes (callListCall out work (bytesOf (flatten order))) 4096 (callList (flatten order))
+        (calls.calls-outcome out work (flatten order) (r .0) (r .1) (g .word) (g .some) l (firsts-accepted n order (g .bundle)) (stray-none .1 none))
 
     module _ (k : length (callList (flatten order)) ≤ 4096) where
       -- the call list says its length
@@ -162,7 +175,7 @@ module _ (q : Asked) where
           second-asked out work (q .path) (q .path-accepted) (q .groups) f list (q .groups-accepted) r c
           (calls.calls-words n order (g .bundle) k) k (calls.calls-checked n order (g .bundle) k)
           (against-checked f (q .path) list (calls.calls-header n order (g .bundle) k .labels-is ∙ ap labelsOf (asks-head (q .groups) (q .path)))
-          (λ c m. called-door (q .plant) (q .parts) (q .cut) (q .one-root) e small part-ends
+          (λ c m. called-door (q .plant) (q .parts) (q .cut) (q .one-root) e small
           (called-is c .0 (rw (calls.calls-pairs n order (g .bundle)) at m)) f i))
           ∙ outcome-gives 4096 (secondReply f path list) (omega (arith, second.second-length f path list (c .2), c .1))
 

@@ -30,18 +30,28 @@ pub data Comes (p : Plant) (e : Expr) : ℕ → ℕ → Type 0 where
   begin : {r : ℕ} → p .Root r → Comes p e r 0
   link : {x a y q t : ℕ} → Comes p e x q → Running p x → p .Link x a y → p .Node y → T (step holds e q a t) → Comes p e y t
 
--- a walk starts at a running node
+-- a walk starts at a running node, and ends at one
 pub walk-start : {p : Plant} {x y : ℕ} {w : List ℕ} → Walk p x w y → Running p x
 walk-start (stay n) = n
 walk-start (go n l k) = n
+
+pub walk-end : {p : Plant} {x y : ℕ} {w : List ℕ} → Walk p x w y → Running p y
+walk-end (stay n) = n
+walk-end (go n l k) = walk-end k
+
+-- the walks of a plant are walks of one that has its running nodes, running, and its links between nodes
+pub walk-kept : {p p′ : Plant} → ((x : ℕ) → Running p x → Running p′ x) → ((x a y : ℕ) → p .Node y → p .Link x a y → p′ .Link x a y)
+    → {x y : ℕ} {w : List ℕ} → Walk p x w y → Walk p′ x w y
+walk-kept runs links (stay {x = x} n) = stay (runs x n)
+walk-kept runs links (go {x = x} {a = a} {y = y} n l k) = go (runs x n) (links x a y (walk-start k .0) l) (walk-kept runs links k)
 
 module _ (p : Plant) (e : Expr) where
   pub comes-state : {x q : ℕ} → Comes p e x q → q ≤ count e
   comes-state (begin r) = omega arith
   comes-state (link {a = a} {q = q} {t = t} c n l m s) = step-range holds e q a t s .1
 
-  pub walk-comes : {x y q t : ℕ} {w : List ℕ} → Comes p e x q → Walk p x w y → Run holds e q w t → Comes p e y t × Running p y
-  walk-comes {x} c (stay n) r = (subst (Comes p e x) r c, n)
+  pub walk-comes : {x y q t : ℕ} {w : List ℕ} → Comes p e x q → Walk p x w y → Run holds e q w t → Comes p e y t
+  walk-comes {x} c (stay n) r = subst (Comes p e x) r c
   walk-comes c (go n l k) r = walk-comes (link c n l (walk-start k .0) (r .1)) k (r .2)
 
   -- a walk and a run, one link longer
@@ -62,7 +72,7 @@ module _ (p : Plant) (e : Expr) where
   -- the nodes found are the running ones come to in an accepting state
   pub found-iff : (x : ℕ) → Found p e x ↔ (Running p x × ((q : ℕ) × Comes p e x q × T (accepts e q)))
   found-iff x = (
-    λ (r, w, k, v, m). let (q, run, t) = glushkov holds e w .0 m in let (c, n) = walk-comes (begin k) v run in (n, (q, c, t)),
+    λ (r, w, k, v, m). let (q, run, t) = glushkov holds e w .0 m in (walk-end v, (q, walk-comes (begin k) v run, t)),
     λ (n, (q, c, t)). let (r, w, k, v, run) = comes-walk c n in (r, w, k, v, glushkov holds e w .1 (q, run, t)),
   )
 
@@ -93,6 +103,10 @@ unwalked-ends p parts e cut none f m = record {
   ];
 }
 
+-- and only there
+pub ends-unwalked : (p : Plant) (parts : List (List ℕ)) (e : Expr) → ((f : List ℕ) → Mem f parts → Ends p e f) → Unwalked ourGroups p parts e
+ends-unwalked p parts e ends r x a y q t w f k v run m h out s = out (ends f m .node x a y q t (walk-comes p e (begin k) v run) (walk-end v) h s)
+
 -- a part that holds some of the plant's nodes
 module _ (p : Plant) (e : Expr) (small : count e ≤ 15) (f : List ℕ) (part : Holds p f) where
   -- the part's running nodes are the plant's
@@ -112,13 +126,15 @@ module _ (p : Plant) (e : Expr) (small : count e ≤ 15) (f : List ℕ) (part : 
       let o = ends .node (pairNode c) (labelOf w) (pairNode d) (pairState c) (pairState d) k n h s in
       link k n (part .is-link (pairNode c) (labelOf w) (pairNode d) h o) o s)
 
-  -- a link from a running node of the part is a step
-  pub link-step : {x a y q : ℕ} (t : ℕ) → Comes p e x q → Mem x (nodes (body f)) → Running p x → p .Link x a y → p .Node y → T (step holds e q a t)
-      → Mem (pair y t) (stepIn (body f) e (pair x q))
-  link-step {x} {a} {y} {q} t c m n l o s =
-      let (w, k, i, j) = part .has-link x a y m l o in
+  -- an edge of the part from a running node is a step, and so is a link of the plant between its nodes
+  pub edge-step : {x a y q : ℕ} (t : ℕ) → Comes p e x q → Running p x → HasEdge f x a y → T (step holds e q a t) → Mem (pair y t) (stepIn (body f) e (pair x q))
+  edge-step {x} {a} {y} {q} t c n (w, k, i, j) s =
       pair-step-iff (body f) e small x q y t (omega (arith, comes-state p e c)) (omega (arith, step-range holds e q a t s)) .1
       (w, exits-iff (body f) x w .1 (k, λ u. n .1 (part .is-stopped x u)), j, rw i s)
+
+  pub link-step : {x a y q : ℕ} (t : ℕ) → Comes p e x q → Mem x (nodes (body f)) → Running p x → p .Link x a y → p .Node y → T (step holds e q a t)
+      → Mem (pair y t) (stepIn (body f) e (pair x q))
+  link-step {x} {a} {y} t c m n l o s = edge-step t c n (part .has-link x a y m l o) s
 
   -- where walks in the part from seeds come to reach all that is come to at its node x, they reach x, running, in an accepting state just if
   -- x is found

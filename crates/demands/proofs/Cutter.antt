@@ -35,7 +35,7 @@ use Rattle.demands.specs.Plant.{Plant, OneRoot, TrueCut, Unwalked, Holds
 use Rattle.demands.specs.PlantOf.{plantOf, partsOf}
 use Rattle.demands.proofs.PlantOf.{plant-holds, plant-closed}
 use Rattle.demands.proofs.LeftOut.{OnlyLinks, plant-unwalked, closed-unwalked}
-use Rattle.demands.proofs.Comes.{begin, comes-state, walk-comes}
+use Rattle.demands.proofs.Comes.{begin, walk-end, comes-state, walk-comes}
 use Rattle.demands.proofs.OldSearch.{comes-reach, roots-below}
 
 -- any true cut of a plant with a root has some part, and at most sixteen, as sites are different and below 16
@@ -169,11 +169,11 @@ pub search-unwalked : (f cuts : List ℕ) → partCheck f ≡ 0 → (site : ℕ)
     → T (not (any (λ c. not (member (pairNode c) (nodes (body f)))) (reached (body f) e (rootPairs f)))) → Unwalked ourGroups (plantOf f) (partsOf f cuts) e
 search-unwalked f cuts p site listed e small test =
     plant-unwalked ourGroups (plantOf f) (partsOf f cuts) e (part-links f cuts p site listed) (λ r x a y q t w k v run (u, i, j, l) out s.
-    let (c, n) = walk-comes (plantOf f) e (begin k) v run in
+    let c = walk-comes (plantOf f) e (begin k) v run in
     let b : t < 16 = omega (arith, step-range holds e q a t s) in
     let d = comes-reach (plantOf f) f (plant-holds f) (λ x n. n) e small c in
     let z = next d (pair-step-iff (body f) e small x q y t (omega (arith, comes-state (plantOf f) e c)) b .1
-    (u, exits-iff (body f) x u .1 (i, n .1), l, rw j s)) in
+    (u, exits-iff (body f) x u .1 (i, walk-end v .1), l, rw j s)) in
     let all = all-iff (λ c. member (pairNode c) (nodes (body f))) (reached (body f) e (rootPairs f)) .0 test (pair y t)
     (reached-lists (body f) e small (rootPairs f) (roots-below f) .complete (pair y t) z) in
     out (rw (pair-node y t b) at (member-iff (pairNode (pair y t)) (nodes (body f)) .0 all)))

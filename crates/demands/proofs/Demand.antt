@@ -29,13 +29,14 @@ use Rattle.expressions.specs.Labels.{exprOf}
 use Rattle.demands.specs.Plant.{Plant, Fits, Found, FinalList, FinalListBy, body}
 use Rattle.demands.specs.Grouped.{ours, groupsOf, asks, firstCall, secondCall}
 use Rattle.demands.specs.Question.{Room, Call, first, calls, second, join, Asking, stopped, going, _>>=_, call, each, Answer, ask}
-use Rattle.demands.specs.Demand.{Enough, AcceptedPath, Demand2, Asked, Put, Right, question, inOrder, First, at-once, later, Owed, Over, NoneOver, SmallBundles, Claim, Demand3}
+use Rattle.demands.specs.Demand.{Enough, AcceptedPath, Demand2, Asked, NoneWalked, Put, Right, question, inOrder, First, at-once, later, Owed, Over, NoneOver, SmallBundles, Claim, Demand3}
 use Rattle.demands.proofs.Comes.{found-iff}
 use Rattle.demands.proofs.Cross.{cross-answers}
 use Rattle.demands.proofs.OldSearch.{final-unique, old-final}
-use Rattle.demands.proofs.Accepts.{path, path-read, e, small, part-ends, firsts, Owes, Gathered, gathered, called-iff, first-call, hub-call, second-call, Answered, answered, join-call, join-lists, join-perm, first-sized, list-sized, second-sized, joined-sized, joined-words}
+use Rattle.demands.proofs.Accepts.{path, path-read, e, small, none-ends, firsts, Owes, Gathered, gathered, called-iff, first-call, hub-call, second-call, Answered, answered, join-call, join-lists, join-perm, first-sized, list-sized, second-sized, joined-sized, joined-words}
 use Rattle.demands.proofs.Grouping.{asks-checked, asks-head, old-asked, final-asked}
-use Rattle.demands.proofs.Host.{call-gives, call-refuses, each-gives, stops-here, stops-later}
+use Rattle.demands.proofs.Host as host
+use Rattle.demands.proofs.Host.{call-gives, call-refuses, each-gives, stops-here, stops-later, stopped-going}
 use Rattle.demands.proofs.Owed.{firstOf, secondOf, bundle, list, bundle′, owed, Agree, owed-once}
 
 -- a plant that fits one file
@@ -53,9 +54,9 @@ bundle-bytes write fs = ap flatten (sym (map-map bytesOf write fs)) ∙ bytes-fl
 
 module _ (q : Asked) where
   -- the parts find what walks from the root find
-  found-is : {order : List (List ℕ)} → Gathered q order
+  found-is : {order : List (List ℕ)} → NoneWalked q → Gathered q order
       → (x : ℕ) → ((f : List ℕ) × Mem f (q .parts) × Mem x (found f (path q) (callList (flatten order)))) ↔ Found (q .plant) (e q) x
-  found-is {order} g x = (
+  found-is {order} none g x = (
     λ (f, m, k). answers f m .sound x k .1,
     λ k.
         let (f, m, n) = q .cut .every x (found-iff (q .plant) (e q) x .0 k .0 .0) in
@@ -64,7 +65,7 @@ module _ (q : Asked) where
     where
       answers : (f : List ℕ) → Mem f (q .parts)
           → Lists (λ x. Mem x (nodes (body f)) × Found (q .plant) (e q) x) (found f (path q) (callList (flatten order)))
-      answers f m = cross-answers (q .plant) (q .parts) (q .cut) (q .one-root) (e q) (small q) (part-ends q) f m
+      answers f m = cross-answers (q .plant) (q .parts) (q .cut) (q .one-root) (e q) (small q) (none-ends q .0 none) f m
           (calledIn (body f) (drop 1 (callList (flatten order)))) (called-iff q g f)
 
   module _ (u : Put q) where
@@ -73,25 +74,26 @@ module _ (q : Asked) where
     firstOutcome part n m = firstCall (q .groups) n m part (bytesOf (q .path))
 
     abbrev askFirst : List ℕ → Asking (List ℕ)
-    askFirst part = call (first part) (firstOutcome part) (u .room .first part)
+    askFirst = host.askFirst (q .groups) (u .room) (bytesOf (q .path))
 
     abbrev secondOutcome : List ℕ → List ℕ → ℕ → ℕ → Outcome
     secondOutcome called part n m = secondCall (q .groups) n m part (bytesOf (q .path)) called
 
     abbrev askSecond : List ℕ → List ℕ → Asking (List ℕ)
-    askSecond called part = call (second part) (secondOutcome called part) (u .room .second part)
+    askSecond = host.askSecond (q .groups) (u .room) (bytesOf (q .path))
 
-    -- the question after the first bundle, and after the call list
+    -- the question after the second bundle, after the call list, and after the first bundle
+    abbrev last : List (List ℕ) → Asking Answer
+    last = host.afterSeconds (q .groups) (u .room) (bytesOf (q .path))
+
     abbrev after : List ℕ → Asking Answer
-    after called = each (askSecond called) (map bytesOf (u .order′)) >>= (λ seconds.
-        call join (λ n m. joinCall n m (flatten seconds)) (u .room .join) >>= (λ final. going (record { seconds = seconds; final = final })))
+    after = host.afterList (q .groups) (u .room) (bytesOf (q .path)) (map bytesOf (u .order′))
 
     abbrev hub : List (List ℕ) → Asking Answer
-    hub firsts = call calls (λ n m. callListCall n m (flatten firsts)) (u .room .calls) >>= after
+    hub = host.afterFirsts (q .groups) (u .room) (bytesOf (q .path)) (map bytesOf (u .order′))
 
     is-run : question q u ≡ (each askFirst (map bytesOf (u .order)) >>= hub)
-    unfolding ask
-    is-run = refl
+    is-run = host.ask-is (q .groups) (u .room) (bytesOf (q .path)) (map bytesOf (u .order)) (map bytesOf (u .order′))
 
     part-of : (f : List ℕ) → Mem f (u .order) → Mem f (q .parts)
     part-of = perm-same (u .once) .0
@@ -113,78 +115,91 @@ module _ (q : Asked) where
     first-over f m h = call-refuses (first (bytesOf f)) (firstOutcome (bytesOf f)) (u .room .first (bytesOf f)) 14 (first-owes f m .over h)
 
     -- no first reply is over its limit: the hub's turn
-    module _ (short : Short) (small : length (bundle q u) ≤ 8192) where
+    module _ (short : Short) where
       all : (f : List ℕ) → Mem f (firsts q) → length f ≤ 4096
       all f m = let (g, i, e) = Memᴰ·of-map (firstOf q) (q .parts) m in subst (λ z. length z ≤ 4096) e (short g i)
 
-      first-replies : Gathered q (map (firstOf q) (u .order))
+      pub first-replies : Gathered q (map (firstOf q) (u .order))
       first-replies = gathered q all (map (firstOf q) (u .order)) (perm-map (firstOf q) (u .once))
 
-      to-hub : question q u ≡ (call calls (λ n m. callListCall n m (bytesOf (bundle q u))) (u .room .calls) >>= after)
+      pub to-hub : question q u ≡ (call calls (λ n m. callListCall n m (bytesOf (bundle q u))) (u .room .calls) >>= after)
       to-hub =
           is-run
           ∙ ap (λ x. x >>= hub) (each-gives askFirst bytesOf (λ f. bytesOf (firstOf q f)) (u .order) (λ f m. first-gives f m (short f (part-of f m))))
           ∙ ap (λ b. call calls (λ n m. callListCall n m b) (u .room .calls) >>= after) (bundle-bytes (firstOf q) (u .order))
 
+    -- nor is a link that ends nowhere walked: the call list, or 15
+    module _ (short : Short) (none : NoneWalked q) (small : length (bundle q u) ≤ 8192) where
       hub-owes : Owes (callListCall (u .room .calls .out) (u .room .calls .work) (bytesOf (bundle q u))) 4096 (list q u)
-      hub-owes = hub-call q first-replies small _ _ (u .enough .calls)
+      hub-owes = hub-call q (first-replies short) none small _ _ (u .enough .calls)
 
       stops-hub : 4096 < length (list q u) → question q u ≡ stopped calls 15
-      stops-hub h = to-hub ∙ ap (λ x. x >>= after) (call-refuses calls (λ n m. callListCall n m (bytesOf (bundle q u))) (u .room .calls) 14 (hub-owes .over h))
+      stops-hub h = to-hub short ∙ ap (λ x. x >>= after) (call-refuses calls (λ n m. callListCall n m (bytesOf (bundle q u))) (u .room .calls) 14 (hub-owes .over h))
 
       -- the call list is not over its limit either: the sites' second turn, and joining
-      module _ (fits : length (list q u) ≤ 4096) (small′ : length (bundle′ q u) ≤ 8192) where
+      module _ (fits : length (list q u) ≤ 4096) where
         second-replies : Answered q (list q u) (map (secondOf q (list q u)) (u .order′))
         second-replies = answered q (list q u) (map (secondOf q (list q u)) (u .order′)) (perm-map (secondOf q (list q u)) (u .once′))
 
         second-gives : (f : List ℕ) → Mem f (u .order′) → askSecond (bytesOf (list q u)) (bytesOf f) ≡ going (bytesOf (secondOf q (list q u) f))
         second-gives f m =
             call-gives (second (bytesOf f)) (secondOutcome (bytesOf (list q u)) (bytesOf f)) (u .room .second (bytesOf f)) (secondOf q (list q u) f) (second-sized q (list q u) f (part-of′ f m))
-            (second-call q first-replies fits _ _ (u .enough .second f (part-of′ f m)) f (part-of′ f m))
+            (second-call q (first-replies short) fits _ _ (u .enough .second f (part-of′ f m)) f (part-of′ f m))
 
-        abbrev given : Answer
-        given = record { seconds = map (λ f. bytesOf (secondOf q (list q u) f)) (u .order′); final = bytesOf (joined (bundle′ q u)) }
+        abbrev replies : List (List ℕ)
+        replies = map (λ f. bytesOf (secondOf q (list q u) f)) (u .order′)
 
-        run-ends : question q u ≡ going given
-        run-ends =
-            to-hub
-            ∙ ap (λ x. x >>= after) (call-gives calls (λ n m. callListCall n m (bytesOf (bundle q u))) (u .room .calls) (list q u) (list-sized q first-replies fits) (hub-owes .gives fits))
-            ∙ ap (λ x. x >>= (λ ss. call join (λ n m. joinCall n m (flatten ss)) (u .room .join) >>= (λ f. going (record { seconds = ss; final = f }))))
+        pub to-join : question q u
+            ≡ (call join (λ n m. joinCall n m (bytesOf (bundle′ q u))) (u .room .join) >>= (λ f. going (record { seconds = replies; final = f })))
+        to-join =
+            to-hub short
+            ∙ ap (λ x. x >>= after) (call-gives calls (λ n m. callListCall n m (bytesOf (bundle q u))) (u .room .calls) (list q u) (list-sized q (first-replies short) fits) (hub-owes .gives fits))
+            ∙ ap (λ x. x >>= last)
             (each-gives (askSecond (bytesOf (list q u))) bytesOf (λ f. bytesOf (secondOf q (list q u) f)) (u .order′) second-gives)
-            ∙ ap (λ x. x >>= (λ f. going (record { seconds = given .seconds; final = f })))
-            (ap (λ b. call join (λ n m. joinCall n m b) (u .room .join)) (bundle-bytes (secondOf q (list q u)) (u .order′))
-            ∙ call-gives join (λ n m. joinCall n m (bytesOf (bundle′ q u))) (u .room .join) (joined (bundle′ q u)) (joined-sized q second-replies small′)
-            (join-call q second-replies small′ _ _ (u .enough .join)))
+            ∙ ap (λ b. call join (λ n m. joinCall n m b) (u .room .join) >>= (λ f. going (record { seconds = replies; final = f })))
+            (bundle-bytes (secondOf q (list q u)) (u .order′))
 
-        joined-final : FinalList (q .plant) (e q) (joined (bundle′ q u))
-        joined-final =
-            let (xs, all′, is) = join-lists q second-replies in
-            (xs, lists-iff (found-is first-replies) all′, is)
+        -- nor is the second bundle over its limit
+        module _ (small′ : length (bundle′ q u) ≤ 8192) where
+          abbrev given : Answer
+          given = record { seconds = replies; final = bytesOf (joined (bundle′ q u)) }
 
-        final-words : words (given .final) ≡ joined (bundle′ q u)
-        final-words = words-bytes (joined (bundle′ q u)) (joined-words q second-replies small′)
+          run-ends : question q u ≡ going given
+          run-ends =
+              to-join
+              ∙ ap (λ x. x >>= (λ f. going (record { seconds = replies; final = f })))
+              (call-gives join (λ n m. joinCall n m (bytesOf (bundle′ q u))) (u .room .join) (joined (bundle′ q u)) (joined-sized q second-replies small′)
+              (join-call q second-replies small′ _ _ (u .enough .join)))
 
-        seconds-words : words (flatten (given .seconds)) ≡ bundle′ q u
-        seconds-words =
-            ap words (bundle-bytes (secondOf q (list q u)) (u .order′))
-            ∙ words-bytes (bundle′ q u) (second-replies .word)
+          joined-final : FinalList (q .plant) (e q) (joined (bundle′ q u))
+          joined-final =
+              let (xs, all′, is) = join-lists q second-replies in
+              (xs, lists-iff (found-is none (first-replies short)) all′, is)
 
-        ending : (a : Answer) × (question q u ≡ going a) × Right q a
-        ending = (
-          given,
-          run-ends,
-          record {
-            final = final-asked (q .plant) (q .groups) (q .path) (q .groups-accepted) (words (given .final)) .0 (subst (FinalList (q .plant) (e q)) (sym final-words) joined-final);
-            once = subst₂ (λ s f. Perm (answersOf s) (answersOf f)) (sym seconds-words) (sym final-words)
-                (join-perm q second-replies small′);
-            old = λ whole fit n m r.
-                old-asked n m (q .path) (q .path-accepted) (q .groups) whole (q .groups-accepted) r (fit .word) (fit .small) (fit .whole)
-                ∙ ap accepted (final-unique (q .plant) (e q) (old-final (q .plant) whole (fit .whole) (fit .holds) (fit .every) (path q) (path-read q)) joined-final ∙ sym final-words);
-          },
-        )
+          final-words : words (given .final) ≡ joined (bundle′ q u)
+          final-words = words-bytes (joined (bundle′ q u)) (joined-words q second-replies small′)
+
+          seconds-words : words (flatten (given .seconds)) ≡ bundle′ q u
+          seconds-words =
+              ap words (bundle-bytes (secondOf q (list q u)) (u .order′))
+              ∙ words-bytes (bundle′ q u) (second-replies .word)
+
+          ending : (a : Answer) × (question q u ≡ going a) × Right q a
+          ending = (
+            given,
+            run-ends,
+            record {
+              final = final-asked (q .plant) (q .groups) (q .path) (q .groups-accepted) (words (given .final)) .0 (subst (FinalList (q .plant) (e q)) (sym final-words) joined-final);
+              once = subst₂ (λ s f. Perm (answersOf s) (answersOf f)) (sym seconds-words) (sym final-words)
+                  (join-perm q second-replies small′);
+              old = λ whole fit n m r.
+                  old-asked n m (q .path) (q .path-accepted) (q .groups) whole (q .groups-accepted) r (fit .word) (fit .small) (fit .whole)
+                  ∙ ap accepted (final-unique (q .plant) (e q) (old-final (q .plant) whole (fit .whole) (fit .holds) (fit .every) (path q) (path-read q)) joined-final ∙ sym final-words);
+            },
+          )
 
     -- the question stops at the first call that owes a reply or a list over its limit, or ends where none does
-    module _ (o : Owed q u) (few : SmallBundles q u o) where
+    module _ (none-walked : NoneWalked q) (o : Owed q u) (few : SmallBundles q u o) where
       same : Agree q u o (owed q u)
       same = owed-once q u o (owed q u)
 
@@ -233,7 +248,7 @@ module _ (q : Asked) where
 
       hub-run : Short → (by : Call) → First (Over q u o) hubOn by → question q u ≡ stopped by 15
       unfolding owed
-      hub-run short by (at-once h) = stops-hub short (first-small short) (rw (same .list-is) at h)
+      hub-run short by (at-once h) = stops-hub short none-walked (first-small short) (rw (same .list-is) at h)
       hub-run short by (later n r) = absurd (none-behind (u .order′) by r)
 
       stops : (by : Call) → First (Over q u o) (inOrder q u) by → question q u ≡ stopped by 15
@@ -244,7 +259,7 @@ module _ (q : Asked) where
 
       ends : NoneOver q u o → (a : Answer) × (question q u ≡ going a) × Right q a
       unfolding owed
-      ends none = ending short (first-small short) (list-short (none calls hub-call)) (rw (same .bundle-is′) at (few .second none))
+      ends none = ending short none-walked (first-small short) (list-short (none calls hub-call)) (rw (same .bundle-is′) at (few .second none))
         where
           short : Short
           short f m = first-short f m (none (first (bytesOf f)) (Memᴰ·append-left hubOn (Memᴰ·map (λ f. first (bytesOf f)) (perm-same (u .once) .1 f m))))
@@ -266,19 +281,16 @@ module _ (q : Asked) where
         | no n ↦ elim (some-first cs) [ inl (d, r) ↦ inl (d, later n r) | inr a ↦ inr (on-cons (λ c. Over q u o c → ⊥) n a) ]
       ]
 
-      -- a question stops in one way, and does not stop if it goes on
+      -- a question stops in one way
       same-stop : (c d : Call) (k l : ℕ) → question q u ≡ stopped c k → question q u ≡ stopped d l → (c ≡ d) × (k ≡ l)
       same-stop c d k l p r = (cc, cc)
-
-      no-stop : (c : Call) (k : ℕ) (a : Answer) → question q u ≡ stopped c k → question q u ≡ going a → ⊥
-      no-stop c k a p r = let z : _≡_ {A = ℕ} 0 1 = cc in omega arith
 
       claim : Claim q u o
       claim = record {
         stops = λ by k. (
           λ r. elim (some-first (inOrder q u)) [
             | inl (c, s) ↦ let (i, j) = same-stop by c k 15 r (stops c s) in (subst (First (Over q u o) (inOrder q u)) (sym i) s, j)
-            | inr none ↦ let end = ends none in absurd (no-stop by k (end .0) r (end .1))
+            | inr none ↦ let end = ends none in absurd (stopped-going (sym r ∙ end .1))
           ],
           λ (s, i). stops by s ∙ ap (stopped by) (sym i),
         );
@@ -288,7 +300,7 @@ module _ (q : Asked) where
 
 pub demand-3 : Demand3
 demand-3 = record {
-  claim = claim;
+  claim = λ q none u. claim q u none;
   owed = owed;
   traffic = λ groups part path f g p a r.
       let asked = asks groups path in

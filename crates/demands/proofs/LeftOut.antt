@@ -9,9 +9,9 @@ use Rattle.sets.specs.Sets.{Mem}
 use Rattle.expressions.specs.Expr.{Expr}
 use Rattle.expressions.specs.Positions.{step, Run}
 use Rattle.expressions.specs.Labels.{holdsBy}
-use Rattle.demands.specs.Plant.{Plant, Walk, stay, go, FoundBy, Closed, HasEdge, Holds, TrueCut, Unwalked, Fits}
+use Rattle.demands.specs.Plant.{Plant, Walk, FoundBy, Closed, HasEdge, Holds, TrueCut, Unwalked, Fits}
 use Rattle.demands.specs.PlantOf.{leftOut}
-use Rattle.demands.proofs.Comes.{walk-start}
+use Rattle.demands.proofs.Comes.{walk-kept}
 
 -- no part has a link that the plant has not
 abbrev pub OnlyLinks : Plant → List (List ℕ) → Type 0
@@ -34,12 +34,10 @@ module _ (p : Plant) where
   left-out-closed x a y l = l .1
 
   to : {x y : ℕ} {w : List ℕ} → Walk p x w y → Walk (leftOut p) x w y
-  to (stay n) = stay n
-  to (go n l k) = go n (l, walk-start k .0) (to k)
+  to = walk-kept (λ x n. n) (λ x a y n l. (l, n))
 
   from : {x y : ℕ} {w : List ℕ} → Walk (leftOut p) x w y → Walk p x w y
-  from (stay n) = stay n
-  from (go n l k) = go n (l .0) (from k)
+  from = walk-kept (λ x n. n) (λ x a y n l. l .0)
 
   pub left-out-found : (groups : List ℕ) (e : Expr) (x : ℕ) → FoundBy groups p e x ↔ FoundBy groups (leftOut p) e x
   left-out-found groups e x = (λ (r, w, k, v, m). (r, w, k, to v, m), λ (r, w, k, v, m). (r, w, k, from v, m))

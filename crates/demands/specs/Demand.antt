@@ -35,9 +35,8 @@ Demand2 = (p : Plant) (whole : List ℕ) (groups : Groups) (path : List ℕ) →
     → (n m : ℕ) → Enough 8192 n m
     → (final : List ℕ) × (oldCall groups n m (bytesOf whole) (bytesOf path) ≡ accepted final) × FinalListBy (groupsOf groups) p (exprOf (drop 1 path)) final
 
--- Demand 3's givens: a plant with one root, a true cut of it, and groups and a path that all sites accept, by which no walk can take a link that ends
--- nowhere. That the parts are one to sixteen, as sites are 0 to 15, follows from the rest (`some-part` and `few-parts` of proofs/Cutter.antt), and is
--- said for the reader.
+-- Demand 3's givens: a plant with one root, a true cut of it, and groups and a path that all sites accept. That the parts are one to sixteen, as sites
+-- are 0 to 15, follows from the rest (`some-part` and `few-parts` of proofs/Cutter.antt), and is said for the reader.
 pub record Asked : Type 1 where
   pub plant : Plant
   pub one-root : OneRoot plant
@@ -49,7 +48,10 @@ pub record Asked : Type 1 where
   pub groups-accepted : AcceptedGroups groups
   pub path : List ℕ
   pub path-accepted : AcceptedPath path
-  pub unwalked : Unwalked (groupsOf groups) plant parts (exprOf (drop 1 path))
+
+-- and no walk can take a link that ends nowhere, by these groups and this path
+abbrev pub NoneWalked : Asked → Type 0
+NoneWalked q = Unwalked (groupsOf (q .groups)) (q .plant) (q .parts) (exprOf (drop 1 (q .path)))
 
 -- c is the first of some calls that has a property
 pub data First (P : Call → Type 0) : List Call → Call → Type 0 where
@@ -137,6 +139,6 @@ Traffic =
 -- Demand 3, entire: one claim about the question, for every plant, cut, groups, path, two orders and buffers, whatever files meet document 01's words
 -- of what the calls owe; that there are such files; and the bound on traffic
 pub record Demand3 : Type 1 where
-  pub claim : (q : Asked) (u : Put q) (o : Owed q u) → SmallBundles q u o → Claim q u o
+  pub claim : (q : Asked) → NoneWalked q → (u : Put q) (o : Owed q u) → SmallBundles q u o → Claim q u o
   pub owed : (q : Asked) (u : Put q) → Owed q u
   pub traffic : Traffic

@@ -19,7 +19,7 @@ use Rattle.files.specs.Refuse.{_then_, sizeCheck}
 use Rattle.files.specs.Outcome.{accepted}
 use Rattle.files.specs.Field.{pairNode}
 use Rattle.files.specs.Groups.{ourGroups}
-use Rattle.files.specs.Part.{nodes, roots, partCheck, wholeCheck}
+use Rattle.files.specs.Part.{nodes, partCheck, wholeCheck}
 use Rattle.files.specs.Path.{pathCheck}
 use Rattle.files.proofs.Checks.{checks, then-iff}
 use Rattle.files.proofs.Parts.{whole-part}
@@ -42,19 +42,20 @@ use Rattle.files.specs.Cuts.{cutCheck}
 use Rattle.demands.specs.Plant.{OneRoot, Unwalked, Words, body}
 use Rattle.demands.specs.PlantOf.{plantOf, partsOf}
 use Rattle.demands.specs.Grouped.{Groups, ours, AcceptedGroups, groupsOf, asks}
-use Rattle.demands.specs.Question.{Buffers, Room, going, ask}
-use Rattle.demands.specs.Demand.{AcceptedPath, Asked, Put, SmallBundles, Claim, Enough, question}
-use Rattle.demands.proofs.PlantOf.{one-root-of, plant-one-root}
+use Rattle.demands.specs.Question.{Buffers, Room, going, Answer, ask}
+use Rattle.demands.specs.Demand.{AcceptedPath, Asked, NoneWalked, Put, SmallBundles, Claim, Enough, question}
+use Rattle.demands.proofs.PlantOf.{plant-one-root}
 use Rattle.demands.proofs.Cutter.{true-cut, some-part, few-parts, whole-unwalked, search-unwalked}
 use Rattle.demands.proofs.Grouping.{asks-checked, unwalked-asked}
 use Rattle.demands.proofs.Owed.{firstOf, secondOf, list, owed}
 use Rattle.demands.proofs.Demand.{demand-3}
+use Rattle.growth.specs.Growth.{Ended}
 
--- the givens, by words: of a file with one root, and accepted groups and path by which no link that ends nowhere is walked
+-- the givens, by words: of a file with one root, and accepted groups and path
 abbrev pub asked-of : (f cuts p : List ℕ) → Words f → length f ≤ 4096 → partCheck f ≡ 0 → OneRoot (plantOf f)
     → (site : ℕ) → cutCheck (body f) cuts site ≡ 0
-    → AcceptedPath p → (groups : Groups) → AcceptedGroups groups → Unwalked (groupsOf groups) (plantOf f) (partsOf f cuts) (exprOf (drop 1 p)) → Asked
-asked-of f cuts p word few c one site d path-ok groups groups-ok none = record {
+    → AcceptedPath p → (groups : Groups) → AcceptedGroups groups → Asked
+asked-of f cuts p word few c one site d path-ok groups groups-ok = record {
   plant = plantOf f;
   one-root = one;
   parts = partsOf f cuts;
@@ -65,28 +66,24 @@ asked-of f cuts p word few c one site d path-ok groups groups-ok none = record {
   groups-accepted = groups-ok;
   path = p;
   path-accepted = path-ok;
-  unwalked = none;
 }
 
--- of a whole file, where no link ends nowhere
+-- of a whole file, with our groups
 abbrev pub asked : (f cuts p : List ℕ) → Words f → length f ≤ 4096 → wholeCheck f ≡ 0
     → (site : ℕ) → cutCheck (body f) cuts site ≡ 0
     → Words p → length p ≤ 64 → pathCheck p ≡ 0 → Asked
 asked f cuts p word few c site d path-word path-short path-read =
     asked-of f cuts p word few (whole-part f c) (plant-one-root f c) site d (path-word, path-short, path-read) ours tt
-    (whole-unwalked ourGroups f cuts c site d (exprOf (drop 1 p)))
 
--- of any file, where the search of it as it stands, by the path that is asked, comes to no node that the file has not
+-- no link that ends nowhere is walked where the search of the file as it stands, by the path that is asked, comes to no node that the file has not
 abbrev pub stays : (f p : List ℕ) → Bool
 stays f p = not (any (λ c. not (member (pairNode c) (nodes (body f)))) (reached (body f) (exprOf (drop 1 p)) (rootPairs f)))
 
-abbrev pub asked-open : (f cuts p : List ℕ) → Words f → length f ≤ 4096 → partCheck f ≡ 0 → (r : ℕ) → roots (body f) ≡ r ∷ []
-    → (site : ℕ) → cutCheck (body f) cuts site ≡ 0
-    → AcceptedPath p → (groups : Groups) → AcceptedGroups groups → T (stays f (asks groups p)) → Asked
-asked-open f cuts p word few c r only site d path-ok groups groups-ok test =
-    asked-of f cuts p word few c (one-root-of f r only) site d path-ok groups groups-ok
-    (unwalked-asked (plantOf f) (partsOf f cuts) groups p groups-ok .0
-    (search-unwalked f cuts c site d (exprOf (drop 1 (asks groups p))) (path-small (asks groups p) (asks-checked groups p groups-ok (path-ok .2))) test))
+pub stays-none : (f cuts p : List ℕ) → partCheck f ≡ 0 → (site : ℕ) → cutCheck (body f) cuts site ≡ 0 → AcceptedPath p → (groups : Groups) → AcceptedGroups groups
+    → T (stays f (asks groups p)) → Unwalked (groupsOf groups) (plantOf f) (partsOf f cuts) (exprOf (drop 1 p))
+stays-none f cuts p c site d path-ok groups groups-ok test =
+    unwalked-asked (plantOf f) (partsOf f cuts) groups p groups-ok .0
+    (search-unwalked f cuts c site d (exprOf (drop 1 (asks groups p))) (path-small (asks groups p) (asks-checked groups p groups-ok (path-ok .2))) test)
 
 -- accepted bytes are those of accepted words
 pub record Read (limit : ℕ) (check : List ℕ → ℕ) (s : List ℕ) : Type 0 where
@@ -118,6 +115,11 @@ module _ (whole cuts path : List ℕ) (whole-bytes : Bytes whole) (path-bytes : 
   pub givens : Asked
   givens = asked (words whole) cuts (words path) (w .word) (w .few) (w .read) 0 cuts-read (p .word) (p .few) (p .read)
 
+  -- no link of a whole ends nowhere
+  pub givens-none : NoneWalked givens
+  unfolding givens
+  givens-none = whole-unwalked ourGroups (words whole) cuts (w .read) 0 cuts-read (exprOf (drop 1 (words path)))
+
   -- the givens' plant is the one that the file holds, and their parts are what the cutter gives for the sites that the list names
   pub givens-plant : givens .plant ≡ plantOf (words whole)
   unfolding givens
@@ -148,9 +150,14 @@ asked-by-test f cuts p t =
     let ((((u, few), c), d), ((v, short), r)) = simp (and-iff, le-iff, eq-iff) at t in
     asked f cuts p (words-by-test f u) few c 0 d (words-by-test p v) short r
 
--- a question may be put with any accepted groups by which no link that ends nowhere is walked: the givens with these
-abbrev pub regrouped : (q : Asked) (groups : Groups) → AcceptedGroups groups → Unwalked (groupsOf groups) (q .plant) (q .parts) (exprOf (drop 1 (q .path))) → Asked
-regrouped q groups ok none = record {
+pub none-by-test : (f cuts p : List ℕ) (t : T (askable f cuts p)) → NoneWalked (asked-by-test f cuts p t)
+none-by-test f cuts p t =
+    let ((((u, few), c), d), ((v, short), r)) = simp (and-iff, le-iff, eq-iff) at t in
+    whole-unwalked ourGroups f cuts c 0 d (exprOf (drop 1 p))
+
+-- a question may be put with any accepted groups: the givens with these
+abbrev pub regrouped : (q : Asked) (groups : Groups) → AcceptedGroups groups → Asked
+regrouped q groups ok = record {
   plant = q .plant;
   one-root = q .one-root;
   parts = q .parts;
@@ -161,7 +168,6 @@ regrouped q groups ok none = record {
   groups-accepted = ok;
   path = q .path;
   path-accepted = q .path-accepted;
-  unwalked = none;
 }
 
 -- document 01's end-to-end files
@@ -194,6 +200,10 @@ asking q order order′ once once′ = record {
 abbrev pub inTurn : (q : Asked) → Put q
 inTurn q = asking q (q .parts) (q .parts) (perm-refl (q .parts)) (perm-refl (q .parts))
 
+-- a run that is not refused, by its answer
+abbrev pub ended : (q : Asked) (u : Put q) (a : Answer) → question q u ≡ going a → Ended q
+ended q u a e = record { order = u .order; order′ = u .order′; once = u .once; once′ = u .once′; room = u .room; answer = a; run = e }
+
 abbrev pub examplePut : Put example
 examplePut = inTurn example
 
@@ -220,8 +230,8 @@ two-small q u few = record {
         omega (arith, flatten-by at-most by-length write 4096 fs h)
 
 -- so demand 3 speaks of every question with at most two sites
-pub two-claim : (q : Asked) (u : Put q) → length (q .parts) ≤ 2 → Claim q u (owed q u)
-two-claim q u few = demand-3 .claim q u (owed q u) (two-small q u few)
+pub two-claim : (q : Asked) → NoneWalked q → (u : Put q) → length (q .parts) ≤ 2 → Claim q u (owed q u)
+two-claim q none u few = demand-3 .claim q none u (owed q u) (two-small q u few)
 
 pub example-claim : Claim example examplePut (owed example examplePut)
-example-claim = two-claim example examplePut (lit≤ tt)
+example-claim = two-claim example (none-by-test whole (0 ∷ 1 ∷ 0 ∷ []) path tt) examplePut (lit≤ tt)

@@ -123,10 +123,10 @@ group-orders = (refl, refl, refl, refl, refl, refl, refl, refl, refl, refl, refl
 
 -- demand 3 speaks of such a question
 abbrev pub pressAsked : Asked
-pressAsked = regrouped (asked-by-test whole apart byGroup tt) byPress refl (whole-unwalked (words (b press)) whole apart refl 0 refl (exprOf (drop 1 byGroup)))
+pressAsked = regrouped (asked-by-test whole apart byGroup tt) byPress refl
 
 pub press-claim : Claim pressAsked (inTurn pressAsked) (owed pressAsked (inTurn pressAsked))
-press-claim = two-claim pressAsked (inTurn pressAsked) (lit≤ tt)
+press-claim = two-claim pressAsked (whole-unwalked (words (b press)) whole apart refl 0 refl (exprOf (drop 1 byGroup))) (inTurn pressAsked) (lit≤ tt)
 
 -- Sites that differ in their groups: no call refuses, and the list may be short. Site 1 has 5 for group 1, so the walk by 5 and 6 ends there, and 3
 -- is missing.

@@ -40,12 +40,13 @@ use Rattle.dearest.specs.Dearest.{span, dearPart, dearPath}
 use Rattle.demands.specs.Plant.{Closed, HasEdge, Holds, AcceptedPart, TrueCut, Unwalked, Fits, body}
 use Rattle.demands.specs.PlantOf.{plantOf, partsOf}
 use Rattle.demands.specs.Grouped.{ours, asks}
-use Rattle.demands.specs.Question.{Call, first, calls, Asking, stopped, going, Answer, ask}
-use Rattle.demands.specs.Demand.{Asked, Put, Right, question, inOrder, First, at-once, Over, Claim}
+use Rattle.demands.specs.Question.{first, calls, stopped, going, Answer, ask}
+use Rattle.demands.specs.Demand.{Asked, NoneWalked, Put, Right, question, inOrder, First, at-once, Over, Claim}
 use Rattle.demands.proofs.PlantOf.{one-root-of, plant-closed}
 use Rattle.demands.proofs.Owed.{owed}
+use Rattle.growth.proofs.Ended.{ended-right}
 use Rattle.table.specs.Table.{whole, path, part0, first0, calls as callsOfW, second0, second1, final, b}
-use Rattle.witnesses.proofs.Asked.{allWords, words-by-test, stays, asked-of, asked-open, exampleRoom, asking, inTurn, two-claim}
+use Rattle.witnesses.proofs.Asked.{allWords, words-by-test, stays, asked-of, stays-none, exampleRoom, asking, inTurn, ended, two-claim}
 use Rattle.witnesses.proofs.Vectors.{onFirsts}
 use Rattle.witnesses.proofs.Over.{row15, row15-is, row15-over, ranges-accepted}
 use Rattle.witnesses.proofs.TwoSites.{site-accepted}
@@ -100,7 +101,10 @@ unfolding closure flatten stepIn reached
 idle-stays = tt
 
 abbrev pub idleAsked : Asked
-idleAsked = asked-open idle apart path (words-by-test idle tt) (lit≤ tt) refl 1 refl 0 refl (words-by-test path tt, lit≤ tt, refl) ours tt idle-stays
+idleAsked = asked-of idle apart path (words-by-test idle tt) (lit≤ tt) refl (one-root-of idle 1 refl) 0 refl (words-by-test path tt, lit≤ tt, refl) ours tt
+
+pub idle-none : NoneWalked idleAsked
+idle-none = stays-none idle apart path refl 0 refl (idleAsked .path-accepted) ours tt idle-stays
 
 pub idle-parts : idleAsked .parts ≡ part0 ∷ idlePart ∷ []
 unfolding cut
@@ -119,20 +123,11 @@ unfolding ask flatten closure stepIn reached answers reported doorWords firstRep
 idle-run = refl
 
 pub idle-claim : Claim idleAsked (inTurn idleAsked) (owed idleAsked (inTurn idleAsked))
-idle-claim = two-claim idleAsked (inTurn idleAsked) (lit≤ tt)
-
--- a question that goes on does not stop
-going-on : {a : Answer} {by : Call} {k : ℕ} → _≡_ {A = Asking Answer} (going a) (stopped by k) → ⊥
-going-on e = let z : _≡_ {A = ℕ} 0 1 = cc in omega arith
-
-same-answer : {a c : Answer} → _≡_ {A = Asking Answer} (going a) (going c) → a ≡ c
-same-answer e = cc
+idle-claim = two-claim idleAsked idle-none (inTurn idleAsked) (lit≤ tt)
 
 -- so demand 3 says that this list is right
 pub idle-right : Right idleAsked idleAnswer
-idle-right =
-    let (a, e, r) = idle-claim .ends (λ by m h. let (c, e) = idle-claim .over by m h in going-on (sym idle-run ∙ e)) in
-    subst (Right idleAsked) (same-answer (sym e ∙ idle-run)) r
+idle-right = ended-right idleAsked (ended idleAsked (inTurn idleAsked) idleAnswer idle-run)
 
 -- the edges of f that end at nodes of f are edges of g, by a test: the edge w of the node x, all edges of x, all nodes
 module _ (f g : List ℕ) where
@@ -142,7 +137,10 @@ module _ (f g : List ℕ) where
   abbrev keptAt : ℕ → Bool
   keptAt x = not (any (λ w. not (keptEdge x w)) (edges (body f) x))
 
-  kept : T (not (any (λ x. not (keptAt x)) (nodes (body f)))) → (x a y : ℕ) → HasEdge f x a y → Mem y (nodes (body f)) → HasEdge g x a y
+  abbrev pub keptEdges : Bool
+  keptEdges = not (any (λ x. not (keptAt x)) (nodes (body f)))
+
+  pub kept : T keptEdges → (x a y : ℕ) → HasEdge f x a y → Mem y (nodes (body f)) → HasEdge g x a y
   kept t x a y (w, m, l, e) n =
       let (_, _, k) = edge-of (body f) x w m in
       let u = all-iff (keptEdge x) (edges (body f) x) .0 (all-iff keptAt (nodes (body f)) .0 t x k) w m in
@@ -182,8 +180,8 @@ walked-run = refl
 pub walked-not : Unwalked ourGroups (plantOf walked) (partsOf walked apart) (exprOf (drop 1 path)) → ⊥
 walked-not none =
     let q = asked-of walked apart path (words-by-test walked tt) (lit≤ tt) refl (one-root-of walked 1 refl) 0 refl
-    (words-by-test path tt, lit≤ tt, refl) ours tt none in
-    omega (arith, two-claim q (inTurn q) (lit≤ tt) .stops calls 14 .0 walked-run .1)
+    (words-by-test path tt, lit≤ tt, refl) ours tt in
+    omega (arith, two-claim q none (inTurn q) (lit≤ tt) .stops calls 14 .0 walked-run .1)
 
 -- a link of a stopped node is not walked, whatever its label
 abbrev pub stoppedIdle : List ℕ
@@ -201,7 +199,7 @@ unfolding closure flatten stepIn reached
 press-stays = tt
 
 abbrev pub pressIdle : Asked
-pressIdle = asked-open idle apart byGroup (words-by-test idle tt) (lit≤ tt) refl 1 refl 0 refl (words-by-test byGroup tt, lit≤ tt, refl) byPress refl press-stays
+pressIdle = asked-of idle apart byGroup (words-by-test idle tt) (lit≤ tt) refl (one-root-of idle 1 refl) 0 refl (words-by-test byGroup tt, lit≤ tt, refl) byPress refl
 
 pub press-idle-run : (question pressIdle (inTurn pressIdle) ≡ going idleAnswer)
     × (ask ours exampleRoom (b byGroup) (map b (pressIdle .parts)) (map b (pressIdle .parts)) ≡ stopped calls 14)
@@ -209,7 +207,7 @@ unfolding ask flatten closure stepIn reached answers reported doorWords firstRep
 press-idle-run = (refl, refl)
 
 pub press-idle-claim : Claim pressIdle (inTurn pressIdle) (owed pressIdle (inTurn pressIdle))
-press-idle-claim = two-claim pressIdle (inTurn pressIdle) (lit≤ tt)
+press-idle-claim = two-claim pressIdle (stays-none idle apart byGroup refl 0 refl (pressIdle .path-accepted) byPress refl press-stays) (inTurn pressIdle) (lit≤ tt)
 
 -- ---- replies and their lengths are those of the parts as they stand: a 15 by an idle link is a 15
 
@@ -242,8 +240,11 @@ removed-is = record { word = tt; few = tt; read = refl; root-is = refl; cuts-rea
 abbrev pub removedAsked : Asked
 removedAsked =
     let r = removed-is in
-    asked-open removed twoSites (dearPath 15) (words-by-test removed (r .word)) (leb→le (length removed) 4096 (r .few)) (r .read) 2 (r .root-is) 0 (r .cuts-read)
-    ranges-accepted ours tt (r .inside)
+    asked-of removed twoSites (dearPath 15) (words-by-test removed (r .word)) (leb→le (length removed) 4096 (r .few)) (r .read)
+    (one-root-of removed 2 (r .root-is)) 0 (r .cuts-read) ranges-accepted ours tt
+
+removed-none : NoneWalked removedAsked
+removed-none = let r = removed-is in stays-none removed twoSites (dearPath 15) (r .read) 0 (r .cuts-read) ranges-accepted ours tt (r .inside)
 
 abbrev pub removedPut : Put removedAsked
 removedPut =
@@ -258,7 +259,7 @@ removed-first = at-once {c = first (bytesOf row15)} (rw (words-bytes row15 (site
 pub removed-stops : question removedAsked removedPut ≡ stopped (first (bytesOf row15)) 15
 removed-stops =
     let few = subst (λ (ps : List (List ℕ)). length ps ≤ 2) (sym (removed-is .parts-are)) (lit≤ tt) in
-    two-claim removedAsked removedPut few .stops (first (bytesOf row15)) 15 .1 (removed-first, refl)
+    two-claim removedAsked removed-none removedPut few .stops (first (bytesOf row15)) 15 .1 (removed-first, refl)
 
 -- ---- which bundles get 14
 

@@ -9,3 +9,4 @@ pub mod OutsideLabels
 pub mod WaitingOperands
 pub mod CustomerGroups
 pub mod IdleLinks
+pub mod Growing

@@ -22,7 +22,7 @@ use Rattle.demands.specs.Question.{ask}
 use Rattle.demands.specs.Demand.{Asked, Claim}
 use Rattle.demands.proofs.Owed.{owed}
 use Rattle.table.specs.Table.{whole, final}
-use Rattle.witnesses.proofs.Asked.{asked-by-test, inTurn, two-claim}
+use Rattle.witnesses.proofs.Asked.{asked-by-test, none-by-test, inTurn, two-claim}
 use Rattle.witnesses.proofs.Vectors.{onPath}
 use Rattle.witnesses.proofs.BothSearches.{none, only, OwnFiles, BothGive, apart}
 
@@ -80,4 +80,4 @@ abbrev pub othersAsked : Asked
 othersAsked = asked-by-test whole apart others tt
 
 pub others-claim : Claim othersAsked (inTurn othersAsked) (owed othersAsked (inTurn othersAsked))
-others-claim = two-claim othersAsked (inTurn othersAsked) (lit≤ tt)
+others-claim = two-claim othersAsked (none-by-test whole apart others tt) (inTurn othersAsked) (lit≤ tt)

@@ -20,7 +20,7 @@ use Rattle.demands.specs.Question.{first, stopped}
 use Rattle.demands.specs.Demand.{AcceptedPath, Asked, Put, question, inOrder, First, at-once, later, Over}
 use Rattle.demands.proofs.Owed.{owed}
 use Rattle.witnesses.proofs.Asked.{words-by-test, asking, two-claim}
-use Rattle.witnesses.proofs.TwoSites.{Site, site-accepted, two}
+use Rattle.witnesses.proofs.TwoSites.{Site, site-accepted, two, two-none}
 
 -- row 15's two doors with their nine targets each, and the site of the targets, the first of them the root
 abbrev pub row15 : List ℕ
@@ -68,4 +68,4 @@ over-first = later {d = first (bytesOf targets)}
 
 -- row 15's call ends the question
 pub over-stops : question over overPut ≡ stopped (first (bytesOf row15)) 15
-over-stops = two-claim over overPut (omega arith) .stops (first (bytesOf row15)) 15 .1 (over-first, refl)
+over-stops = two-claim over (two-none row15 targets row15-is targets-is refl (dearPath 15) ranges-accepted) overPut (omega arith) .stops (first (bytesOf row15)) 15 .1 (over-first, refl)

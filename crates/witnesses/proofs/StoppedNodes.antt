@@ -22,7 +22,7 @@ use Rattle.demands.specs.Question.{ask}
 use Rattle.demands.specs.Demand.{Asked, Claim}
 use Rattle.demands.proofs.Owed.{owed}
 use Rattle.table.specs.Table.{whole, path, part1, first1, second0, final, b}
-use Rattle.witnesses.proofs.Asked.{asked-by-test, inTurn, two-claim}
+use Rattle.witnesses.proofs.Asked.{asked-by-test, none-by-test, inTurn, two-claim}
 use Rattle.witnesses.proofs.BothSearches.{none, only, BothGive, apart, together}
 
 -- W with its node 3 stopped, and with its root stopped
@@ -100,4 +100,4 @@ abbrev pub haltedAsked : Asked
 haltedAsked = asked-by-test halted apart path tt
 
 pub halted-claim : Claim haltedAsked (inTurn haltedAsked) (owed haltedAsked (inTurn haltedAsked))
-halted-claim = two-claim haltedAsked (inTurn haltedAsked) (lit≤ tt)
+halted-claim = two-claim haltedAsked (none-by-test halted apart path tt) (inTurn haltedAsked) (lit≤ tt)

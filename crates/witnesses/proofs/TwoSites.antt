@@ -19,7 +19,7 @@ use Rattle.expressions.specs.Labels.{exprOf}
 use Rattle.demands.specs.Plant.{Plant, OneRoot, Closed, HasEdge, AcceptedPart, TrueCut, body}
 use Rattle.demands.specs.PlantOf.{plantOfParts}
 use Rattle.demands.specs.Grouped.{ours}
-use Rattle.demands.specs.Demand.{AcceptedPath, Asked}
+use Rattle.demands.specs.Demand.{AcceptedPath, Asked, NoneWalked}
 use Rattle.demands.proofs.PlantOf.{parts-cut}
 use Rattle.demands.proofs.LeftOut.{closed-unwalked}
 use Rattle.demands.proofs.Cutter.{some-part, few-parts}
@@ -110,7 +110,7 @@ module _ (left right : List ℕ) {mid high root : ℕ} {rooted rooted′ offered
       (λ e. (right, there (here refl), doors-nodes (body right) y (left-to x a y e)))
       (λ e. (left, here refl, doors-nodes (body left) y (right-to x a y e))) f m e
 
-  -- the givens, for an accepted path: the plant has no link that ends nowhere, and the parts' links are its own
+  -- the givens, for an accepted path; the plant has no link that ends nowhere, and the parts' links are its own
   abbrev pub two : (path : List ℕ) → AcceptedPath path → Asked
   two path ok = record {
     plant = plant;
@@ -123,5 +123,7 @@ module _ (left right : List ℕ) {mid high root : ℕ} {rooted rooted′ offered
     groups-accepted = tt;
     path = path;
     path-accepted = ok;
-    unwalked = closed-unwalked ourGroups plant sites (exprOf (drop 1 path)) (λ f m x a y e. (f, m, e)) two-closed;
   }
+
+  pub two-none : (path : List ℕ) (ok : AcceptedPath path) → NoneWalked (two path ok)
+  two-none path ok = closed-unwalked ourGroups plant sites (exprOf (drop 1 path)) (λ f m x a y e. (f, m, e)) two-closed

@@ -22,7 +22,7 @@ use Rattle.demands.specs.Question.{ask}
 use Rattle.demands.specs.Demand.{Asked, Claim}
 use Rattle.demands.proofs.Owed.{owed}
 use Rattle.table.specs.Table.{whole, path, part0, calls, final, b}
-use Rattle.witnesses.proofs.Asked.{asked-by-test, inTurn, two-claim}
+use Rattle.witnesses.proofs.Asked.{asked-by-test, none-by-test, inTurn, two-claim}
 use Rattle.witnesses.proofs.Vectors.{onPath, labels, empties, ors, stars}
 use Rattle.witnesses.proofs.BothSearches.{OwnFiles, BothGive, apart}
 
@@ -91,4 +91,4 @@ abbrev pub eightAsked : Asked
 eightAsked = asked-by-test whole apart eight tt
 
 pub eight-claim : Claim eightAsked (inTurn eightAsked) (owed eightAsked (inTurn eightAsked))
-eight-claim = two-claim eightAsked (inTurn eightAsked) (lit≤ tt)
+eight-claim = two-claim eightAsked (none-by-test whole apart eight tt) (inTurn eightAsked) (lit≤ tt)

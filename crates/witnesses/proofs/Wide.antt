@@ -33,7 +33,7 @@ use Rattle.demands.specs.Demand.{Asked, Put, Right, question, Over, NoneOver, C
 use Rattle.demands.proofs.Owed.{list, owed}
 use Rattle.table.specs.Table.{path}
 use Rattle.witnesses.proofs.Asked.{words-by-test, asking, two-claim}
-use Rattle.witnesses.proofs.TwoSites.{Site, site-accepted, both, apart, two, only-root}
+use Rattle.witnesses.proofs.TwoSites.{Site, site-accepted, both, apart, two, two-none, only-root}
 
 -- n nodes from x on, no doors and without links
 unfoldable pub lone : ℕ → ℕ → List ℕ
@@ -121,7 +121,7 @@ further-door = (
 )
 
 pub wide-claim : Claim wide widePut (owed wide widePut)
-wide-claim = two-claim wide widePut (omega arith)
+wide-claim = two-claim wide (two-none left right left-is right-is refl path (words-by-test path tt, lit≤ tt, refl)) widePut (omega arith)
 
 -- nothing that is owed is over its limit, so the question goes on to the end, and its list is demand 2's
 wide-firsts : (length (firstReply left path) ≡ 14) × (length (firstReply right path) ≡ 8)

@@ -109,9 +109,14 @@ impl FirstBundle {
     }
 
     pub fn call_list_words(&self, called: &BTreeSet<Pair>) -> Vec<u32> {
-        let words: Vec<u32> = called.iter().map(|pair| pair_word(CALL, *pair)).collect();
-        file(CALLS, 0, self.n, &words)
+        call_list(self.n, called)
     }
+}
+
+/// The call list of these pairs, for a path of n `n`.
+pub fn call_list(n: u32, called: &BTreeSet<Pair>) -> Vec<u32> {
+    let words: Vec<u32> = called.iter().map(|pair| pair_word(CALL, *pair)).collect();
+    file(CALLS, 0, n, &words)
 }
 
 pub fn read_second_bundle(bytes: &[u8]) -> Result<Vec<SecondReply>, Refusal> {
@@ -124,6 +129,11 @@ pub fn read_second_bundle(bytes: &[u8]) -> Result<Vec<SecondReply>, Refusal> {
 pub fn final_list(nodes: &BTreeSet<u32>) -> Vec<u32> {
     let words: Vec<u32> = nodes.iter().map(|node| ANSWER << 28 | node).collect();
     file(FINAL, 0, 0, &words)
+}
+
+/// The nodes of such a list.
+pub fn nodes_of(list: &[u32]) -> BTreeSet<u32> {
+    list[1..].iter().map(|answer| bits(*answer, 15, 0)).collect()
 }
 
 /// A call list by itself: its n and its pairs.

@@ -1,12 +1,13 @@
 //! Document 01 evaluated, with labels outside a range (request 1), groups that a call is handed (request 3), the length of a first reply
-//! before each door (request 4), links that nobody walks (request 5), stopped nodes (request 7), eight operands waiting at most (request 9)
-//! and the dearest part and path (request 13): every call as a function from bytes, numbers and buffer lengths to a refusal or the result's
-//! words. It is written from the documents alone, for plainness and not for speed, and shares no method with the library where they leave a
-//! choice.
+//! before each door (request 4), links that nobody walks (request 5), stopped nodes (request 7), eight operands waiting at most (request 9),
+//! which parts no reply tells apart and which plants are grown (request 12), and the dearest part and path (request 13): every call as a
+//! function from bytes, numbers and buffer lengths to a refusal or the result's words. It is written from the documents alone, for plainness
+//! and not for speed, and shares no method with the library where they leave a choice.
 
 pub mod dearest;
 pub mod groups;
 pub mod hub;
+pub mod learning;
 pub mod meaning;
 pub mod part;
 pub mod path;

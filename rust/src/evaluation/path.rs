@@ -65,6 +65,11 @@ impl Path {
         self.labels.len()
     }
 
+    /// The same label words and groups with another expression over them.
+    pub fn with(&self, expression: &Expression) -> Path {
+        Path { expression: expression.clone(), ..self.clone() }
+    }
+
     /// Whether the label word of a position, 1 to n, holds a label.
     pub fn holds(&self, position: usize, label: u32) -> bool {
         self.labels[position - 1].holds(&self.groups, label)

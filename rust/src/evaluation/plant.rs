@@ -1,4 +1,5 @@
-//! A plant, file or no file, demand 2's list for it, and the givens of demand 3: a true cut, and links that end nowhere and are not walked.
+//! A plant, file or no file, demand 2's list for it, and the givens of demand 3: a true cut, and links that end nowhere and are not walked;
+//! and a plant with a link more (request 12).
 
 use super::hub::final_list;
 use super::meaning::{listed, stepped_on};
@@ -90,6 +91,17 @@ impl Plant {
             placed.map(|(link, place)| (link, (link.1, place))).unzip();
         let stepped = stepped_on(path, &running.links, root, &further);
         links.into_iter().zip(stepped).filter(|(_, stepped)| *stepped).map(|(link, _)| *link).collect()
+    }
+
+    /// Whether the other plant is this one with a link more between two of its nodes, or none: none is missing there, no node is newly
+    /// stopped, and some may have been started. Links that end nowhere are left out, as no walk has one in it.
+    pub fn grows_into(&self, other: &Plant) -> bool {
+        let [links, others] = [self, other].map(|plant| plant.left_out().links());
+        self.root == other.root
+            && self.nodes.keys().eq(other.nodes.keys())
+            && links.is_subset(&others)
+            && others.len() <= links.len() + 1
+            && other.stopped.is_subset(&self.stopped)
     }
 
     /// A true cut: links that end nowhere are left out, in the plant and in the parts.

@@ -1,5 +1,6 @@
 //! Random call lists and replies that no site need have written.
 
+use crate::evaluation::hub;
 use crate::evaluation::part::Part;
 use crate::evaluation::words::*;
 use crate::generate::plant::number_beside;
@@ -19,13 +20,12 @@ pub fn call_list(random: &mut Random, part: &Part, n: usize) -> Vec<u32> {
     };
     let mut add = |node: u32, percent: usize| {
         while random.chance(percent) && random.chance(70) {
-            pairs.insert((node, random.below(n + 1) as u32));
+            pairs.insert((node, random.below(n + 1)));
         }
     };
     part.nodes.iter().for_each(|node| add(node.number, if node.door { own } else { wrong }));
     part.outside_targets().into_iter().for_each(|target| add(target, other));
-    let words: Vec<u32> = pairs.iter().map(|(node, state)| CALL << 28 | node << 4 | state).collect();
-    file(CALLS, 0, if other_n { n as u32 + 1 } else { n as u32 } & 15, &words)
+    hub::call_list(if other_n { n as u32 + 1 } else { n as u32 } & 15, &pairs)
 }
 
 fn some_nodes(random: &mut Random, count: usize) -> Vec<u32> {

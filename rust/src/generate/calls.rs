@@ -12,7 +12,7 @@ use crate::evaluation::Room;
 use crate::random::Random;
 
 /// Which inputs of a call are damaged, lowest bit first: none, mostly one, or any.
-fn damages(random: &mut Random, inputs: usize) -> u32 {
+pub fn damages(random: &mut Random, inputs: usize) -> u32 {
     match random.below(10) {
         0..=2 => 0,
         3..=7 => 1 << random.below(inputs),
@@ -121,32 +121,51 @@ pub fn asked_for_words(random: &mut Random, words: usize) -> (Part, Vec<u32>) {
     (Part { site: 9, nodes }, path::or_of(path::range(0, 4095), n, true))
 }
 
-fn first_reply(random: &mut Random, grouped: bool) -> Call {
-    let dear = random.chance(2);
-    let (part, groups, path) = match dear {
-        true => dearly_asked(random, grouped),
-        false => asked(random, plant::some_plant, grouped),
-    };
-    let damages = if dear { 0 } else { damages(random, 2 + usize::from(grouped)) };
+/// A call for a first reply, with some of part, path and groups damaged.
+pub fn first_reply_of(random: &mut Random, (part, groups, path): &Asked, damages: u32) -> Call {
     let part = single(random, &part.words(), FILE_LIMIT, damages & 1 != 0);
-    let path = single(random, &path, PATH_LIMIT, damages & 2 != 0);
+    let path = single(random, path, PATH_LIMIT, damages & 2 != 0);
     let groups = groups.map(|groups| single(random, &groups, GROUP_COUNT, damages & 4 != 0));
     Call::FirstReply { part, groups, path }
 }
 
+fn first_reply(random: &mut Random, grouped: bool) -> Call {
+    let dear = random.chance(2);
+    let asked = match dear {
+        true => dearly_asked(random, grouped),
+        false => asked(random, plant::some_plant, grouped),
+    };
+    let damages = if dear { 0 } else { damages(random, 2 + usize::from(grouped)) };
+    first_reply_of(random, &asked, damages)
+}
+
+/// A call for a second reply, with some of part, path, call list and groups damaged.
+pub fn second_reply_of(
+    random: &mut Random,
+    (part, groups, path): &Asked,
+    calls: &[u32],
+    damages: u32,
+) -> Call {
+    let part = single(random, &part.words(), FILE_LIMIT, damages & 1 != 0);
+    let path = single(random, path, PATH_LIMIT, damages & 2 != 0);
+    let calls = single(random, calls, FILE_LIMIT, damages & 4 != 0);
+    let groups = groups.map(|groups| single(random, &groups, GROUP_COUNT, damages & 8 != 0));
+    Call::SecondReply { part, groups, path, calls }
+}
+
+/// The n of a path.
+pub fn n_of(path: &[u32]) -> usize {
+    bits(path[0], 23, 20) as usize
+}
+
 fn second_reply(random: &mut Random, grouped: bool) -> Call {
-    let (part, groups, path) = asked(random, plant::any_plant, grouped);
-    let n = bits(path[0], 23, 20) as usize;
-    let calls = bundle::call_list(random, &part, n);
+    let asked = asked(random, plant::any_plant, grouped);
+    let calls = bundle::call_list(random, &asked.0, n_of(&asked.2));
     let mut damages = damages(random, 3 + usize::from(grouped));
     if random.chance(30) {
         damages |= 4;
     }
-    let part = single(random, &part.words(), FILE_LIMIT, damages & 1 != 0);
-    let path = single(random, &path, PATH_LIMIT, damages & 2 != 0);
-    let calls = single(random, &calls, FILE_LIMIT, damages & 4 != 0);
-    let groups = groups.map(|groups| single(random, &groups, GROUP_COUNT, damages & 8 != 0));
-    Call::SecondReply { part, groups, path, calls }
+    second_reply_of(random, &asked, &calls, damages)
 }
 
 /// The first replies that the sites of a random question owe.
@@ -212,5 +231,13 @@ pub fn room(random: &mut Random, call: &Call) -> Room {
     match random.chance(80) {
         true => least,
         false => Room { out: around(random, least.out), work: around(random, least.work) },
+    }
+}
+
+/// Buffers for a call, or of any lengths up to somewhat more than it needs.
+pub fn any_room(random: &mut Random, call: &Call) -> Room {
+    match random.chance(70) {
+        true => room(random, call),
+        false => Room { out: random.below(40_000), work: random.below(40_000) },
     }
 }

@@ -1,10 +1,12 @@
 //! Random files, counts, whole questions and damage.
 
+pub mod alike;
 pub mod bundle;
 pub mod calls;
 pub mod counts;
 pub mod damage;
 pub mod groups;
+pub mod growth;
 pub mod path;
 pub mod plant;
 pub mod question;

@@ -1,7 +1,8 @@
 //! Random paths, as words with their header.
 
-use crate::evaluation::path::MOST_WAITING;
-use crate::evaluation::words::{file, LABEL, OPERATOR, PATH};
+use crate::evaluation::groups::OURS;
+use crate::evaluation::path::{read_path, MOST_WAITING};
+use crate::evaluation::words::{bits, bytes_of, file, LABEL, OPERATOR, PATH};
 use crate::random::Random;
 
 const ENDS: [u32; 18] =
@@ -113,6 +114,15 @@ pub fn or_of(label: u32, n: usize, star: bool) -> Vec<u32> {
     (1..n).for_each(|_| words.extend([label, OR]));
     words.extend(star.then_some(STAR));
     file(PATH, 0, n as u32, &words)
+}
+
+/// The path of the words of two paths, one behind the other, and these operators; `None` if it is refused: by its labels, its words or the
+/// operands that wait.
+pub fn joined(first: &[u32], second: &[u32], operators: &[u32]) -> Option<Vec<u32>> {
+    let n = [first, second].into_iter().map(|path| bits(path[0], 23, 20)).sum();
+    let words = [&first[1..], &second[1..], operators].concat();
+    let path = Some(file(PATH, 0, n, &words)).filter(|_| n < 16)?;
+    read_path(&bytes_of(&path), &OURS).ok().map(|_| path)
 }
 
 /// Any path, now and then one that every walk spells, so that nothing but stopped nodes is in its way.

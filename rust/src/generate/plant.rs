@@ -69,14 +69,26 @@ pub fn number_beside(random: &mut Random, numbers: &[u32]) -> u32 {
     }
 }
 
+/// One of these labels mostly, or any.
+pub fn some_label(random: &mut Random, labels: &[u32]) -> u32 {
+    match random.chance(90) {
+        true => random.pick(labels),
+        false => random.below(4096) as u32,
+    }
+}
+
+/// The labels of some links, and a few more.
+pub fn labels_of(links: &BTreeSet<Link>) -> Vec<u32> {
+    links.iter().map(|link| link.1).chain([0, 5, 4095]).collect()
+}
+
 /// Links that end nowhere: of the root or any nodes, stopped ones too, with labels that the plant has or any.
 pub fn strays(random: &mut Random, plant: &Plant, count: usize) -> BTreeSet<Link> {
     let numbers: Vec<u32> = plant.nodes.keys().copied().collect();
-    let labels: Vec<u32> = plant.links().into_iter().map(|link| link.1).chain([0, 5, 4095]).collect();
+    let labels = labels_of(&plant.links());
     let link = |_| {
         let node = if random.chance(15) { plant.root } else { random.pick(&numbers) };
-        let label = if random.chance(90) { random.pick(&labels) } else { random.below(4096) as u32 };
-        (node, label, number_beside(random, &numbers))
+        (node, some_label(random, &labels), number_beside(random, &numbers))
     };
     (0..count).map(link).collect()
 }

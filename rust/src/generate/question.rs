@@ -1,12 +1,13 @@
 //! Random whole questions: a plant, a true cut of it, a path, with groups or without; in many of them links that end nowhere.
 
+use super::calls::n_of;
 use super::path::{self, any_label, or_of, range, OR, THEN};
 use super::{calls, groups, plant};
 use crate::evaluation::groups::{Groups, OURS};
 use crate::evaluation::part::{Node, Part};
 use crate::evaluation::path::{read_path, Path};
-use crate::evaluation::plant::{Link, Plant};
-use crate::evaluation::words::{bytes_of, file, PATH};
+use crate::evaluation::plant::{links_of, Link, Plant};
+use crate::evaluation::words::{bytes_of, file, FILE_LIMIT, PATH};
 use crate::random::Random;
 use std::collections::{BTreeMap, BTreeSet};
 
@@ -28,6 +29,11 @@ impl Question {
 
     pub fn read_path(&self) -> Path {
         self.path_by(&self.groups.unwrap_or(OURS))
+    }
+
+    /// Whether its parts are parts.
+    pub fn within_limits(&self) -> bool {
+        self.parts.iter().all(|part| part.words().len() <= FILE_LIMIT)
     }
 
     fn add_to_part(&mut self, (source, label, target): Link) {
@@ -69,12 +75,55 @@ fn with_some_strays(random: &mut Random, question: Question) -> Question {
     with_strays(random, question, &strays, 70)
 }
 
-fn cut(random: &mut Random, plant: Plant, groups: Option<Groups>, path: Vec<u32>) -> Question {
+fn some_sites(random: &mut Random) -> usize {
     let most = random.pick(&[1, 2, 3, 5, 16]);
-    let sites = random.between(1, most);
-    let further = random.pick(&[0, 0, 10, 50, 100]);
+    random.between(1, most)
+}
+
+/// How many of a hundred nodes are doors beyond those that must be.
+const FURTHER: [usize; 5] = [0, 0, 10, 50, 100];
+
+fn cut(random: &mut Random, plant: Plant, groups: Option<Groups>, path: Vec<u32>) -> Question {
+    let (sites, further) = (some_sites(random), random.pick(&FURTHER));
     let parts = plant::true_cut(random, &plant, sites, further);
     Question { plant, parts, groups, path }
+}
+
+/// The question about another plant of the same nodes and with another path, cut anew: into any number of parts, or into as many as it was.
+/// It may have the links that end nowhere which it had, in the plant or in a part, and others.
+pub fn cut_anew(random: &mut Random, question: &Question, plant: &Plant, path: Vec<u32>) -> Question {
+    let mut strays = links_of(&question.parts);
+    strays.extend(question.plant.links());
+    strays.retain(|link| plant.ends_nowhere(link));
+    let (plant, own) = (plant.left_out(), question.parts.len());
+    // with a long path first replies of two parts are over their limit mostly, and many doors in one take the evaluation long
+    let (any, further) = match n_of(&path) > 8 {
+        true => (random.between(1, 2), 0),
+        false => (some_sites(random), random.pick(&FURTHER)),
+    };
+    let sites = random.pick(&[any, own]);
+    let parts = plant::true_cut(random, &plant, sites, further);
+    let mut other = Question { plant, parts, groups: question.groups, path };
+    if !other.within_limits() {
+        other.parts = plant::true_cut(random, &other.plant, own, 0);
+    }
+    let other = with_strays(random, other, &strays, 70);
+    with_some_strays(random, other)
+}
+
+/// The same, cut as it was: the parts keep their links that end nowhere, and further doors.
+pub fn cut_as_it_was(question: &Question, plant: &Plant, path: Vec<u32>) -> Question {
+    let (mut parts, closed) = (question.parts.clone(), plant.left_out());
+    for node in parts.iter_mut().flat_map(|part| &mut part.nodes) {
+        node.stopped = plant.stopped.contains(&node.number);
+        node.edges.retain(|edge| !plant.nodes.contains_key(&edge.1));
+        node.edges.extend(&closed.nodes[&node.number]);
+        node.edges.sort();
+    }
+    let crossed: BTreeSet<u32> = parts.iter().flat_map(Part::outside_targets).collect();
+    let nodes = parts.iter_mut().flat_map(|part| &mut part.nodes);
+    nodes.for_each(|node| node.door |= crossed.contains(&node.number));
+    Question { plant: plant.clone(), parts, groups: question.groups, path }
 }
 
 pub fn small(random: &mut Random) -> Question {
@@ -90,7 +139,7 @@ pub fn small(random: &mut Random) -> Question {
 }
 
 /// First replies that are long, many beyond their limit or beyond a bundle's.
-fn dear(random: &mut Random) -> Question {
+pub fn dear(random: &mut Random) -> Question {
     let alphabet = path::alphabet(random);
     let (sites, each) = (random.between(2, 10), random.between(2, 8));
     let plant = plant::plant(random, sites * each, 4, 0, &alphabet);
@@ -188,7 +237,7 @@ pub fn question(random: &mut Random) -> Question {
         12 | 13 => dear_strays(random),
         _ => small(random),
     };
-    match question.parts.iter().all(|part| part.words().len() <= 4096) {
+    match question.within_limits() {
         true => question,
         false => small(random),
     }

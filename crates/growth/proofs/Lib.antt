@@ -1,0 +1,4 @@
+pub mod Given
+pub mod Ended
+pub mod Found
+pub mod Growth
