@@ -1,7 +1,7 @@
-//! The library's ten calls on what is asked.
+//! The library's eleven calls on what is asked.
 use crate::calls;
 use crate::inputs::Ask;
-use crate::timing::two_outputs;
+use crate::timing::{part_output, two_outputs};
 
 pub fn old_search(ask: &Ask, out: &mut [u8], work: &mut [u8]) -> u32 {
     calls::old_search(&ask.file, &ask.path, out, work)
@@ -42,4 +42,11 @@ pub fn join(ask: &Ask, out: &mut [u8], work: &mut [u8]) -> u32 {
 pub fn dearest(ask: &Ask, out: &mut [u8], work: &mut [u8]) -> u32 {
     let ([doors, targets, labels], [part, path]) = (ask.counts, two_outputs(out));
     calls::dearest(doors, targets, labels, part, path, work)
+}
+
+pub fn generate(ask: &Ask, out: &mut [u8], work: &mut [u8]) -> u32 {
+    let ([nodes, edges], mut state) = (ask.plant, ask.state.get());
+    let number = calls::generate(&mut state, nodes, edges, part_output(out), work);
+    ask.state.set(state);
+    number
 }

@@ -1,4 +1,4 @@
-//! The ten calls of the library beside plain Rust versions of the same algorithms, and beside better ones where such are known.
+//! The eleven calls of the library beside plain Rust versions of the same algorithms, and beside better ones where such are known.
 mod best;
 #[path = "../rust/src/calls.rs"]
 mod calls;
@@ -10,24 +10,25 @@ mod table;
 mod timing;
 mod words;
 
-use table::{Call, BEST, UNGROUPED};
+use table::{Call, BEST, BUNDLE, PART, PLANT, UNGROUPED};
 
 /// The third version of a grouped call is the call without groups, on the same input: its groups are ours.
 fn calls() -> Vec<Call> {
     use best as b;
     use library as l;
     use plain as p;
-    let call = |name, limit, shapes, versions| Call { name, limit, shapes, versions, last: BEST };
-    let grouped = |name, shape, versions| Call { name, limit: 4096, shapes: vec![shape], versions, last: UNGROUPED };
+    let call = |name, sizes, shapes, versions| Call { name, sizes, shapes, versions, last: BEST };
+    let grouped = |name, shape, versions| Call { name, sizes: PART, shapes: vec![shape], versions, last: UNGROUPED };
     let [old, first, second] = [inputs::old_search_of_groups(), inputs::first_reply_of_groups(), inputs::second_reply_of_groups()];
     vec![
-        call("old search", 4096, inputs::old_search(), vec![l::old_search, p::old_search, b::old_search]),
-        call("cutter", 4096, inputs::cut(), vec![l::cut, p::cut]),
-        call("first reply", 4096, inputs::first_reply(), vec![l::first_reply, p::first_reply, b::first_reply]),
-        call("call list", 8192, inputs::call_list(), vec![l::call_list, p::call_list, b::call_list]),
-        call("second reply", 4096, inputs::second_reply(), vec![l::second_reply, p::second_reply, b::second_reply]),
-        call("join", 8192, inputs::join(), vec![l::join, p::join]),
-        call("dearest", 4096, inputs::dearest(), vec![l::dearest, p::dearest]),
+        call("old search", PART, inputs::old_search(), vec![l::old_search, p::old_search, b::old_search]),
+        call("cutter", PART, inputs::cut(), vec![l::cut, p::cut]),
+        call("first reply", PART, inputs::first_reply(), vec![l::first_reply, p::first_reply, b::first_reply]),
+        call("call list", BUNDLE, inputs::call_list(), vec![l::call_list, p::call_list, b::call_list]),
+        call("second reply", PART, inputs::second_reply(), vec![l::second_reply, p::second_reply, b::second_reply]),
+        call("join", BUNDLE, inputs::join(), vec![l::join, p::join]),
+        call("dearest", PART, inputs::dearest(), vec![l::dearest, p::dearest]),
+        call("generate", PLANT, inputs::generate(), vec![l::generate, p::generate]),
         grouped("old search, grouped", old, vec![l::old_search_grouped, p::old_search_grouped, l::old_search]),
         grouped("first reply, grouped", first, vec![l::first_reply_grouped, p::first_reply_grouped, l::first_reply]),
         grouped("second reply, grouped", second, vec![l::second_reply_grouped, p::second_reply_grouped, l::second_reply]),

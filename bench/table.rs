@@ -2,17 +2,21 @@
 use crate::inputs::{Ask, Shape};
 use crate::timing::{measure, Measured, Version};
 
-const SIZES: [usize; 4] = [512, 1024, 2048, 4096];
-
 pub struct Call {
     pub name: &'static str,
-    /// The most words of the input that grows.
-    pub limit: usize,
+    pub sizes: Sizes,
     pub shapes: Vec<Shape>,
     /// The library's, the plain one of the same algorithm and, where there is one, a third.
     pub versions: Vec<Version>,
     pub last: Last,
 }
+
+/// The sizes of the inputs, each twice the one before, and what they count.
+pub type Sizes = (&'static [usize], &'static str);
+
+pub const PART: Sizes = (&[512, 1024, 2048, 4096], "words");
+pub const BUNDLE: Sizes = (&[512, 1024, 2048, 4096, 8192], "words");
+pub const PLANT: Sizes = (&[16, 32, 64, 128, 256], "nodes");
 
 /// The last column: its title, and what it says of the third version.
 pub type Last = (&'static str, fn(&[Measured]) -> String);
@@ -27,12 +31,8 @@ pub const BEST: Last = ("times best known", |sizes| {
 pub const UNGROUPED: Last = ("times without groups", |sizes| list(sizes.iter().map(|m| m.least[0] / m.least[2]), 2));
 
 impl Call {
-    fn sizes(&self) -> Vec<usize> {
-        SIZES.iter().copied().chain((self.limit > 4096).then_some(self.limit)).collect()
-    }
-
     fn measured(&self, shape: &Shape) -> Vec<Measured> {
-        let asks: Vec<Ask> = self.sizes().into_iter().map(shape.make).collect();
+        let asks: Vec<Ask> = self.sizes.0.iter().copied().map(shape.make).collect();
         measure(&self.versions, &asks, &format!("{}, {}", self.name, shape.name))
     }
 }
@@ -62,10 +62,10 @@ struct Worst {
 }
 
 fn table(call: &Call) -> Worst {
-    let sizes = list(call.sizes().iter().map(|&n| n as f64), 0);
+    let ((sizes, unit), (title, last)) = (call.sizes, call.last);
+    let sizes = list(sizes.iter().map(|&n| n as f64), 0);
     println!("\n### {}\n", call.name);
-    let (title, last) = call.last;
-    println!("| input | us at {sizes} words | growth per doubling | times plain | {title} |\n|---|---|---|---|---|");
+    println!("| input | us at {sizes} {unit} | growth per doubling | times plain | {title} |\n|---|---|---|---|---|");
     let mut worst = Worst { ratio: 0.0, seconds: 0.0, shape: "" };
     for shape in &call.shapes {
         let sizes = call.measured(shape);

@@ -62,6 +62,12 @@ pub fn two_outputs(out: &mut [u8]) -> [&mut [u8]; 2] {
     [part, &mut rest[..256]]
 }
 
+/// The first of them alone.
+pub fn part_output(out: &mut [u8]) -> &mut [u8] {
+    let [part, _] = two_outputs(out);
+    part
+}
+
 /// The seconds of each version of a call in each round.
 struct Rounds(Vec<Vec<f64>>);
 
@@ -86,16 +92,17 @@ impl Rounds {
     }
 }
 
-/// All versions must leave the number that is due, and the same bytes. Gives the seconds of each.
+/// All versions must leave the number that is due, the same bytes and the same state, which each is lent anew. Gives the seconds of each.
 fn compare(versions: &[Version], ask: &Ask, name: &str) -> Vec<f64> {
-    let mut first = Buffers::new();
-    let (time, number) = first.once(versions[0], ask);
+    let (mut first, asked) = (Buffers::new(), ask.clone());
+    let (time, number) = first.once(versions[0], &asked);
     assert_eq!(number, ask.number, "{name}");
     let mut times = vec![time];
     for &version in &versions[1..] {
-        let mut other = Buffers::new();
-        let (time, number) = other.once(version, ask);
-        assert!(number == ask.number && other.out == first.out && other.work == first.work, "{name}: two versions differ");
+        let (mut other, again) = (Buffers::new(), ask.clone());
+        let (time, number) = other.once(version, &again);
+        let same = other.out == first.out && other.work == first.work && again.state == asked.state;
+        assert!(number == ask.number && same, "{name}: two versions differ");
         times.push(time);
     }
     times

@@ -507,11 +507,12 @@ static void test_orders(void)
     test_order(SECOND_REPLY_GROUPED, site, 4);
 }
 
-static void test_counts(uint32_t doors, uint32_t targets, uint32_t labels, uint32_t number)
+/* A call that takes three numbers alone. */
+static void test_counts(enum call name, uint32_t first, uint32_t second, uint32_t third, uint32_t number)
 {
-    const struct asked asked = {DEAREST, {{NULL, 0}}, {doors, targets, labels}};
+    const struct asked asked = {name, {{NULL, 0}}, {first, second, third}};
     struct span found;
-    must_be("number of the dearest part and path", number, call(&asked, &found));
+    must_be(call_names[name], number, call(&asked, &found));
 }
 
 /* Row 15: two doors, so many targets each, the star of an or of 15 full ranges; then with groups too. */
@@ -519,7 +520,7 @@ static void test_dear_reply(uint32_t targets, uint32_t number, size_t words)
 {
     struct draft part = {.len = 0}, path = {.len = 0};
     struct span found;
-    test_counts(2, targets, MOWQACHI_PATH_LABELS, 0);
+    test_counts(DEAREST, 2, targets, MOWQACHI_PATH_LABELS, 0);
     put_bytes(&part, result_of(0));
     put_bytes(&path, result_of(1));
     struct asked asked = {FIRST_REPLY, {span_of(&part), span_of(&path)}, {0}};
@@ -588,7 +589,8 @@ static void test_buffers(void)
     const struct asked asked[] = {{OLD_SEARCH, {f[0], f[1]}, {0}}, {CUT, {f[0], cut}, {1}}, {FIRST_REPLY, {f[2], f[1]}, {0}},
                                   {CALL_LIST, {f[3]}, {0}}, {SECOND_REPLY, {f[2], f[1], f[4]}, {0}}, {JOIN, {f[5]}, {0}},
                                   {OLD_SEARCH_GROUPED, {f[0], our_groups, f[1]}, {0}}, {FIRST_REPLY_GROUPED, {f[2], our_groups, f[1]}, {0}},
-                                  {SECOND_REPLY_GROUPED, {f[2], our_groups, f[1], f[4]}, {0}}, {DEAREST, {{NULL, 0}}, {2, 3, 4}}};
+                                  {SECOND_REPLY_GROUPED, {f[2], our_groups, f[1], f[4]}, {0}}, {DEAREST, {{NULL, 0}}, {2, 3, 4}},
+                                  {GENERATE, {{NULL, 0}}, {7, 3, 4}}};
     for (int c = 0; c < CALL_COUNT; c++)
         test_room(&asked[c]);
 }
@@ -625,7 +627,10 @@ int main(int argc, char **argv)
     test_orders();
     test_dear_reply(8, 0, 3875);
     test_dear_reply(9, MOWQACHI_RESULT, 0);
-    test_counts(2, 0, MOWQACHI_PATH_LABELS, MOWQACHI_COUNTS);
+    test_counts(DEAREST, 2, 0, MOWQACHI_PATH_LABELS, MOWQACHI_COUNTS);
+    test_counts(GENERATE, 0, MOWQACHI_GENERATED_NODES, MOWQACHI_GENERATED_EDGES, 0);
+    test_counts(GENERATE, 0, MOWQACHI_GENERATED_NODES + 1, 1, MOWQACHI_CUT);
+    test_counts(GENERATE, 0, 1, MOWQACHI_GENERATED_EDGES + 1, MOWQACHI_CUT);
     test_long_list(14, true, 0, 4096);
     test_long_list(15, true, MOWQACHI_RESULT, 0);
     test_long_list(14, false, MOWQACHI_DOOR, 0);

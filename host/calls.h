@@ -1,4 +1,4 @@
-/* The ten calls for tests: on exact copies of the inputs at odd addresses, into used buffers, and with a look at what is left. */
+/* The eleven calls for tests: on exact copies of the inputs at odd addresses, into used buffers, and with a look at what is left. */
 #ifndef CALLS_H
 #define CALLS_H
 
@@ -7,13 +7,13 @@
 
 enum call {
     OLD_SEARCH, CUT, FIRST_REPLY, CALL_LIST, SECOND_REPLY, JOIN,
-    OLD_SEARCH_GROUPED, FIRST_REPLY_GROUPED, SECOND_REPLY_GROUPED, DEAREST, CALL_COUNT
+    OLD_SEARCH_GROUPED, FIRST_REPLY_GROUPED, SECOND_REPLY_GROUPED, DEAREST, GENERATE, CALL_COUNT
 };
 /* All numbers are below NUMBERS. */
 enum { INPUTS = 4, VALUES = 3, OUTPUTS = 2, NUMBERS = MOWQACHI_COUNTS + 1 };
 
-/* The inputs of a call in its order; those that it has not are empty. Then what it takes by value: the site asked; or doors, outside targets and
-   labels. */
+/* The inputs of a call in its order; those that it has not are empty. Then its numbers: the site asked; or doors, outside targets and labels; or
+   the state that it is lent, nodes and edges per node. */
 struct asked {
     enum call call;
     struct span in[INPUTS];
@@ -25,16 +25,23 @@ struct room {
     size_t out[OUTPUTS], work;
 };
 
-/* The buffers that a call is handed. */
+/* The buffers that a call is handed, and the state, where it is lent one. */
 struct buffers {
     uint8_t *out[OUTPUTS], *work;
     struct room room;
+    uint32_t *state;
 };
 
 extern const char *const call_names[CALL_COUNT];
 extern const struct span our_groups;
 /* What a call asks for, at least. */
 struct room room_for(enum call call);
+/* Whether one of these buffers is shorter than that. */
+bool too_short(enum call call, const struct room *room);
+/* Lengths that are drawn, and may be too short. */
+struct room draw_room(enum call call);
+/* Whether a call is lent a state, the first of its numbers. */
+bool takes_state(enum call call);
 /* Whether a call reads a path by our groups. */
 bool reads_path(enum call call);
 /* Such a call asked with groups. */
@@ -47,6 +54,8 @@ uint32_t call_with(const struct asked *a, struct room room);
 uint32_t call(const struct asked *a, struct span *result);
 /* The last call's result in an output, until the next call; empty after a refusal, and of an output that it has not. */
 struct span result_of(int output);
+/* The state as the last call that was lent one gave it back. */
+uint32_t state_left(void);
 /* Whether two calls of one output leave the same, number and both buffers, whose lengths are drawn and may be too short. */
 bool leave_the_same(const struct asked *a, const struct asked *b);
 /* The numbers that a call has given so far, as bits. */

@@ -11,7 +11,7 @@
 enum { WRITTEN_EVERY = 1000, GROUPED_EVERY = 4 };
 
 /* The kinds of the calls' results: the inspector must accept what the library writes. */
-static const unsigned result_kinds[CALL_COUNT] = {LIST, PART, FIRST, CALLS, SECOND, LIST, LIST, FIRST, SECOND, PART};
+static const unsigned result_kinds[CALL_COUNT] = {LIST, PART, FIRST, CALLS, SECOND, LIST, LIST, FIRST, SECOND, PART, PART};
 
 const char *const options[SUBJECTS] = {"--part", "--whole", "--path", "--calls", "--firsts", "--seconds", "--cut", "--groups", "--asked"};
 

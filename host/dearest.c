@@ -6,12 +6,12 @@
 #include <inttypes.h>
 #include <stdio.h>
 #include <stdlib.h>
-#include <string.h>
 
+#include "among.h"
 #include "checks.h"
 #include "plants.h"
 
-enum { BUFFERS = OUTPUTS + 1, MOST_APART = 9, STRETCH = 65536, MOST_LETTERS = 4, MANY = 1000 };
+enum { MOST_LETTERS = 4, MANY = 1000 };
 
 struct counts {
     uint32_t doors, targets, labels;
@@ -34,10 +34,9 @@ static bool refuses(const struct counts *c)
 }
 
 /* The number that is due in buffers of these lengths. */
-static uint32_t due(const struct counts *c, const struct room *room)
+static uint32_t number_due(const struct counts *c, const struct room *room)
 {
-    struct room least = room_for(DEAREST);
-    if (room->out[0] < least.out[0] || room->out[1] < least.out[1] || room->work < least.work)
+    if (too_short(DEAREST, room))
         return MOWQACHI_BUFFER;
     return refuses(c) ? MOWQACHI_COUNTS : 0;
 }
@@ -61,52 +60,20 @@ static void write_files(const struct counts *c)
     end_path(&path);
 }
 
-/* Where the buffers begin, some bytes apart, in an order that is drawn; and how many bytes there are in all. */
-static size_t lay_out(const size_t *lens, size_t *starts)
-{
-    uint32_t order[BUFFERS];
-    size_t end = 0;
-    draw_order(order, BUFFERS);
-    for (int k = 0; k < BUFFERS; k++) {
-        end += 1 + draw(MOST_APART);
-        starts[order[k]] = end;
-        end += lens[order[k]];
-    }
-    return end + MOST_APART;
-}
-
-/* What the buffers and the bytes around them hold before a call: no zeros. */
-static uint8_t used[STRETCH];
-
-static void fill_used(void)
-{
-    for (size_t i = 0; i < STRETCH; i++)
-        used[i] = (uint8_t)(1 + i % 255);
-}
-
 /* Every byte of the buffers and around them. The number. */
 static uint32_t check_bytes(const struct counts *c, struct room room)
 {
-    static uint8_t stretch[STRETCH], expected[STRETCH];
-    const size_t lens[BUFFERS] = {room.out[0], room.out[1], room.work};
-    size_t starts[BUFFERS], end = lay_out(lens, starts);
-    uint32_t number = due(c, &room);
-    memcpy(stretch, used, end);
-    memcpy(expected, used, end);
-    for (int k = 0; k < BUFFERS; k++)
-        memset(expected + starts[k], 0, lens[k]);
-    if (number == 0) {
-        write_files(c);
-        memcpy(expected + starts[0], plant.bytes, plant.len);
-        memcpy(expected + starts[1], path.bytes, path.len);
-    }
     struct asked asked = {DEAREST, {{NULL, 0}}, {c->doors, c->targets, c->labels}};
-    struct buffers buffers = {{stretch + starts[0], stretch + starts[1]}, stretch + starts[2], room};
-    if (invoke(&asked, &buffers) != number)
-        fail_at(c, "another number");
-    if (memcmp(stretch, expected, end) != 0)
-        fail_at(c, "other bytes");
-    return number;
+    struct due due = {.number = number_due(c, &room)};
+    if (due.number == 0) {
+        write_files(c);
+        due.files[0] = span_of(&plant);
+        due.files[1] = span_of(&path);
+    }
+    const char *wrong = check_among(&asked, room, &due);
+    if (wrong != NULL)
+        fail_at(c, wrong);
+    return due.number;
 }
 
 /* The words that a first reply can have, of the part and the path that there are. */
@@ -199,11 +166,7 @@ static void check_lengths(void)
 static void check_drawn(void)
 {
     struct counts c = {draw(70), draw(70), draw(MOWQACHI_PATH_LABELS + 2)};
-    struct room room = room_for(DEAREST);
-    for (int k = 0; k < OUTPUTS; k++)
-        room.out[k] = draw_length(room.out[k]);
-    room.work = draw_length(room.work);
-    check_bytes(&c, room);
+    check_bytes(&c, draw_room(DEAREST));
     check_reply(&c);
 }
 
@@ -240,7 +203,6 @@ int main(int argc, char **argv)
 {
     long count = argc > 1 ? atol(argv[1]) : 0, as_long = 0;
     uint32_t step = count < MANY ? 10 : 1;
-    fill_used();
     check_edges();
     check_part_limit(step);
     for (uint32_t n = 1; n <= MOWQACHI_PATH_LABELS; n++)

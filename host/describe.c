@@ -1,7 +1,9 @@
 #include "describe.h"
 
+#include <inttypes.h>
 #include <stdio.h>
 
+#include "generator.h"
 #include "mowqachi.h"
 #include "reached.h"
 
@@ -262,15 +264,21 @@ static unsigned owner_at(struct span part, size_t i)
     return node_of(word_at(part, i));
 }
 
-static void print_side(const char *name, const struct side *side, const char *missing)
+/* Word i of one of two parts, or what is said where it is missing. */
+static void print_at(const char *name, struct span part, size_t i, const struct nodes *reached, const char *missing)
 {
-    struct place place = {.reached = &side->reached};
-    collect(&place.own, side->part, NODE);
+    struct place place = {.reached = reached};
+    collect(&place.own, part, NODE);
     printf("%-8s", name);
-    if (side->stands)
-        print_word(word_at(side->part, side->at), side->at, &place);
+    if (missing == NULL)
+        print_word(word_at(part, i), i, &place);
     else
         printf("%s\n", missing);
+}
+
+static void print_side(const char *name, const struct side *side, const char *missing)
+{
+    print_at(name, side->part, side->at, &side->reached, side->stands ? NULL : missing);
 }
 
 /* The condition that is proved is enough for the same replies, and no more: parts that do not meet it may have them too. */
@@ -290,6 +298,47 @@ void print_apart(struct span first, struct span second)
         printf("%s %u\n", node ? "node" : "the edges of node", owner_at(with->part, with->at));
     print_side("first", &sides[0], node ? "not reached" : "none");
     print_side("second", &sides[1], node ? "not reached" : "none");
+}
+
+static void print_same(uint32_t state, size_t nodes, const struct origin *o)
+{
+    printf("generated from state %" PRIu32 ": nodes %zu, edges per node %" PRIu32 ", state left %" PRIu32 " (0x%08" PRIx32 ")\n",
+           state, nodes, o->edges, o->left, o->left);
+}
+
+static void print_other(uint32_t state, size_t nodes, const struct origin *o, struct span whole)
+{
+    static const char *const names[] = {"file", "drawn"};
+    const struct span files[] = {whole, span_of(&o->written)};
+    printf("not generated from state %" PRIu32 ": with nodes %zu, edges per node %" PRIu32 " it agrees furthest, and ", state, nodes, o->edges);
+    if (o->at == 0)
+        printf("differs in the header alone\n");
+    else
+        printf("behind the header differs first at word %zu\n", o->at);
+    for (int k = 0; k < 2; k++)
+        print_at(names[k], files[k], o->at, NULL, o->at < words_of(files[k]) ? NULL : "no word");
+}
+
+/* Where equal edges became one, several numbers of edges may give the same file; they leave different states. */
+void print_generated(struct span whole, uint32_t state)
+{
+    struct origin furthest = {.edges = 0};
+    size_t nodes = tally_of(whole).nodes;
+    bool same = false;
+    if (nodes > MOWQACHI_GENERATED_NODES) {
+        printf("not generated: nodes %zu, over %d\n", nodes, MOWQACHI_GENERATED_NODES);
+        return;
+    }
+    for (uint32_t edges = 1; edges <= MOWQACHI_GENERATED_EDGES; edges++) {
+        struct origin o = origin_of(whole, state, (uint32_t)nodes, edges);
+        same = same || o.same;
+        if (o.same)
+            print_same(state, nodes, &o);
+        if (edges == 1 || o.agree > furthest.agree)
+            furthest = o;
+    }
+    if (!same)
+        print_other(state, nodes, &furthest, whole);
 }
 
 /* The words that call a pair, from the root's door word on. */

@@ -31,6 +31,9 @@ void print_longest(struct span part, struct span path);
 void print_reached(struct span part, const struct nodes *reached);
 /* Whether replies may tell two accepted parts apart, and by which words first. */
 void print_apart(struct span first, struct span second);
+/* Whether the generator writes an accepted whole from a state, with so many edges per node, and which state is left then; or where it differs first
+   from the plant that agrees furthest. */
+void print_generated(struct span whole, uint32_t state);
 /* The words by which a bundle calls a node that is no door, the fewest; where it calls none, how many reach words name one. */
 void print_strays(struct span bundle, const struct calls *calls);
 /* An accepted part as a Graphviz picture. */

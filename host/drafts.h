@@ -1,4 +1,4 @@
-/* Files that a test writes word by word, and numbers drawn for them. */
+/* Files that a program writes word by word, and numbers drawn for tests. */
 #ifndef DRAFTS_H
 #define DRAFTS_H
 

@@ -21,6 +21,7 @@ static const char usage[] =
     "                                              a call list beside the part and path of the site asked\n"
     "       inspect [--hex] --longest PART PATH    how long a first reply can be, by doors, outside targets and labels\n"
     "       inspect [--hex] --shared PART [PART]   of which nodes replies may tell; whether they may tell two parts apart\n"
+    "       inspect [--hex] --generated STATE FILE whether the generator writes this whole from that state, decimal or 0x..\n"
     "       inspect [--hex] --dot FILE             a part as a Graphviz picture\n"
     "AS tells what the file should be; without it the header tells:\n"
     "       --part --whole --path --calls --list   one file\n"
@@ -28,7 +29,8 @@ static const char usage[] =
     "       --files                                files one after another, each by itself\n"
     "Without GROUPS a path has our groups.\n"
     "--hex: the input is text, words in hexadecimal (a cut list: numbers of bytes). FILE may be -, for standard input.\n"
-    "The exit code is the first refusal's number, 0 where all is accepted, be two parts alike or not, and 64 where there is nothing to inspect.\n";
+    "The exit code is the first refusal's number, 0 where all is accepted, be two parts alike or not and a plant generated or not, and 64 where\n"
+    "there is nothing to inspect.\n";
 
 static _Noreturn void give_up(const char *what, const char *why)
 {
@@ -79,6 +81,20 @@ static struct span read_hex(const char *name, size_t width)
     }
     free((void *)text.bytes);
     return (struct span){bytes, len};
+}
+
+/* The state of a generator, as a word. */
+static struct span read_state(const char *text)
+{
+    uint32_t state;
+    if (!read_number(text, &state))
+        give_up(text, "is no state, a number of 32 bits, decimal or behind 0x");
+    uint8_t *bytes = malloc(4);
+    if (bytes == NULL)
+        give_up(text, strerror(errno));
+    for (int k = 0; k < 4; k++)
+        bytes[k] = (uint8_t)(state >> 8 * k);
+    return (struct span){bytes, 4};
 }
 
 /* The report of one file: its words, what there is to say of an accepted one, and the verdict. */
@@ -262,7 +278,16 @@ static unsigned as_shared(const struct span *in)
     return 0;
 }
 
-/* What an option asks for, and how many files it takes; those that are not given are NULL. */
+static unsigned as_generated(const struct span *in)
+{
+    struct verdict v = check_whole(in[1]);
+    if (v.number != 0)
+        return report(in[1], v);
+    print_generated(in[1], word_at(in[0], 0));
+    return 0;
+}
+
+/* What an option asks for, and how many files it takes, a state being one of them; those that are not given are NULL. */
 static const struct mode {
     const char *option;
     int least, most;
@@ -271,7 +296,7 @@ static const struct mode {
     {"--part", 1, 1, as_part}, {"--whole", 1, 1, as_whole}, {"--path", 1, 1, as_path}, {"--calls", 1, 1, as_calls}, {"--list", 1, 1, as_list},
     {"--firsts", 1, 1, as_firsts}, {"--seconds", 1, 1, as_seconds}, {"--files", 1, 1, as_files}, {"--dot", 1, 1, as_picture},
     {"--cut", 2, 2, as_cut}, {"--groups", 1, 2, as_groups}, {"--asked", 3, MOST_FILES, as_asked}, {"--longest", 2, 2, as_longest},
-    {"--shared", 1, 2, as_shared},
+    {"--shared", 1, 2, as_shared}, {"--generated", 2, 2, as_generated},
 };
 
 static struct mode mode_of(const char *option)
@@ -280,6 +305,15 @@ static struct mode mode_of(const char *option)
         if (strcmp(option, modes[i].option) == 0)
             return modes[i];
     return (struct mode){NULL, 1, 1, by_header};
+}
+
+/* The argument k of those that an option takes. */
+static struct span read_input(const struct mode *mode, int k, const char *text, bool hex)
+{
+    if (mode->run == as_generated && k == 0)
+        return read_state(text);
+    bool bytes = mode->run == as_cut && k == 1;
+    return hex ? read_hex(text, bytes ? 1 : 4) : read_bytes(text);
 }
 
 int main(int argc, char **argv)
@@ -295,10 +329,8 @@ int main(int argc, char **argv)
         fputs(usage, stderr);
         return NOTHING;
     }
-    for (int k = 0; k < files; k++) {
-        bool bytes = mode.run == as_cut && k == 1;
-        in[k] = hex ? read_hex(argv[next + k], bytes ? 1 : 4) : read_bytes(argv[next + k]);
-    }
+    for (int k = 0; k < files; k++)
+        in[k] = read_input(&mode, k, argv[next + k], hex);
     unsigned number = mode.run(in);
     for (int k = 0; k < files; k++)
         free((void *)in[k].bytes);

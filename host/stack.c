@@ -20,6 +20,7 @@ struct job {
     uint32_t expected, number;
     size_t depth;
     uint8_t *low;       /* of the stack */
+    uint32_t state;     /* that is lent */
     struct buffers buffers;
     pthread_t thread;
 };
@@ -210,18 +211,22 @@ static void add_bundles(void)
     add(JOIN, 0, span_of(&answers), none, none);
 }
 
-static void add_dearest(uint32_t expected, uint32_t doors, uint32_t targets)
+/* A call that takes three numbers alone. */
+static void add_counted(enum call call, uint32_t expected, uint32_t first, uint32_t second, uint32_t third)
 {
-    jobs[job_count++] = (struct job){.asked = {DEAREST, {{NULL, 0}}, {doors, targets, MOWQACHI_PATH_LABELS}}, .expected = expected};
+    jobs[job_count++] = (struct job){.asked = {call, {{NULL, 0}}, {first, second, third}}, .expected = expected};
 }
 
-/* Parts of 4,096 words, or one less, and one that would have one more. */
+/* Dearest parts of 4,096 words, or one less, and one that would have one more; generated plants, the largest and the smallest, and one too large. */
 static void add_counts(void)
 {
-    add_dearest(0, 1, 4094);
-    add_dearest(0, 63, 64);
-    add_dearest(0, 2047, 1);
-    add_dearest(MOWQACHI_COUNTS, 2048, 1);
+    add_counted(DEAREST, 0, 1, 4094, MOWQACHI_PATH_LABELS);
+    add_counted(DEAREST, 0, 63, 64, MOWQACHI_PATH_LABELS);
+    add_counted(DEAREST, 0, 2047, 1, MOWQACHI_PATH_LABELS);
+    add_counted(DEAREST, MOWQACHI_COUNTS, 2048, 1, MOWQACHI_PATH_LABELS);
+    add_counted(GENERATE, 0, 0, MOWQACHI_GENERATED_NODES, MOWQACHI_GENERATED_EDGES);
+    add_counted(GENERATE, 0, 0xffffffff, 1, 1);
+    add_counted(GENERATE, MOWQACHI_CUT, 0, MOWQACHI_GENERATED_NODES + 1, MOWQACHI_GENERATED_EDGES);
 }
 
 /* Paints the stack below this frame, makes the call, and looks for the deepest byte that changed. */
@@ -251,6 +256,8 @@ static void start(struct job *job)
     for (int k = 0; k < OUTPUTS && job->buffers.room.out[k] > 0; k++)
         job->buffers.out[k] = get(job->buffers.room.out[k]);
     job->buffers.work = get(job->buffers.room.work);
+    job->state = job->asked.values[0];
+    job->buffers.state = &job->state;
     if (pthread_attr_init(&attributes) != 0 || pthread_attr_setstack(&attributes, job->low, STACK) != 0 ||
         pthread_create(&job->thread, &attributes, run, job) != 0)
         fail("no thread");
@@ -281,10 +288,10 @@ static void report(void)
     }
 }
 
-/* Whether two runs of a call left the same outputs, which are given back. */
+/* Whether two runs of a call left the same state and outputs, which are given back. */
 static bool same_outputs(struct job *a, struct job *b)
 {
-    bool same = true;
+    bool same = a->state == b->state;
     for (int k = 0; k < OUTPUTS && a->buffers.room.out[k] > 0; k++) {
         same = same && memcmp(a->buffers.out[k], b->buffers.out[k], a->buffers.room.out[k]) == 0;
         free(a->buffers.out[k]);

@@ -1,20 +1,22 @@
 /* The split link search, for a C11 or C++ host. docs/CALLS.md tells which call belongs where, docs/FORMATS.md what every file, trip and
-   number is: document 01, and of document 02 the requests 1, labels outside a range, 3, groups of the caller's own, 5, links that nobody walks,
-   7, stopped nodes, 9, eight operands waiting, and 13, the dearest reply.
+   number is: document 01, and of document 02 the requests 1, labels outside a range, 2, generated plants, 3, groups of the caller's own, 5, links
+   that nobody walks, 7, stopped nodes, 9, eight operands waiting, and 13, the dearest reply.
 
    Buffers. A length is in bytes. Any alignment will do. Inputs are only read, and may overlap one another. The output, or each of two, and the
    working buffer overlap nothing: neither one another nor an input. A pointer is never null: where a length is 0, pass the address of any object.
-   What outputs and working buffer hold before a call does not matter. Longer ones than asked for are fine, of any length. During a call no
-   other thread changes its inputs or touches its other buffers.
+   What outputs and working buffer hold before a call does not matter. Longer ones than asked for are fine, of any length. A state that is lent is
+   one aligned word of the host's, which the call reads and writes; it overlaps nothing, and its pointer is never null either. During a call no
+   other thread changes its inputs or touches its other buffers or the state.
 
    After a call. At 0 the output begins with the result, a file whose first word tells its length (mowqachi_file_bytes), and is zero past
    it; of two outputs each does. At any other number it is zero from end to end, and so are both of two. The working buffer is zero after every
-   call, to its full length.
+   call, to its full length. A lent state has moved on at 0, and is as it was at any other number.
 
    Order of checks: 1, of any buffer; then the inputs in the order of the parameters; then 15. In one input 2, 3, 4, then word by word 5, 10, 6,
-   7, 9, then at its end 5, 7, 8, 9. A cut list has only 11, and so has the site asked, after it. Groups have only 16, and counts only 21. In a
-   bundle 2, then file by file as above, then over all files 12, 7, 13, and 14 once it is known which pairs are called, however many. A call list by
-   itself, then 12 against the path and 14 against the part. The first check that fails gives the number.
+   7, 9, then at its end 5, 7, 8, 9. A cut list has only 11, and so has the site asked, after it. Groups have only 16. Counts of a dearest part and
+   path have only 21, and those of a generated plant only 11; a state has none. In a bundle 2, then file by file as above, then over all files 12, 7,
+   13, and 14 once it is known which pairs are called, however many. A call list by itself, then 12 against the path and 14 against the part. The
+   first check that fails gives the number.
 
    Labels outside a range. A path's label word of sort 2 (bits 27..24) has a range's fields, the high end in 23..12 and the low end in 11..0,
    and holds the labels below the low end and those above the high one: any label but 5 is 0x52005005. The low end is not above the high one.
@@ -51,7 +53,7 @@ extern "C" {
 #define MOWQACHI_LIST_WORDS 8192   /* final lists */
 
 /* The bytes of an output, at least. */
-#define MOWQACHI_PART_BYTES 16384  /* mowqachi_cut; the part of mowqachi_dearest */
+#define MOWQACHI_PART_BYTES 16384  /* mowqachi_cut; the part of mowqachi_dearest; mowqachi_generate */
 #define MOWQACHI_PATH_BYTES 256    /* the path of mowqachi_dearest */
 #define MOWQACHI_REPLY_BYTES 16384 /* mowqachi_first_reply, mowqachi_second_reply, and with groups */
 #define MOWQACHI_CALLS_BYTES 16384 /* mowqachi_call_list */
@@ -74,6 +76,10 @@ extern "C" {
 #define MOWQACHI_PATH_LABELS 15
 #define MOWQACHI_WAITING 8
 
+/* In a generated plant: nodes at most, and edges drawn for each at most. Both are 1 at least. */
+#define MOWQACHI_GENERATED_NODES 256
+#define MOWQACHI_GENERATED_EDGES 4
+
 /* What a call gives. */
 enum mowqachi_number {
     MOWQACHI_ACCEPTED = 0,
@@ -87,13 +93,13 @@ enum mowqachi_number {
     MOWQACHI_TARGET = 8,   /* whole: target not a node, walked or not */
     MOWQACHI_OPERAND = 9,  /* operand missing, 9 waiting, not one left, label words not n */
     MOWQACHI_STATE = 10,   /* state above the file's n */
-    MOWQACHI_CUT = 11,     /* cut list's length or a byte above 15; site asked above 15 */
+    MOWQACHI_CUT = 11,     /* cut list's length or a byte above 15; site asked above 15; nodes to generate not 1 to 256, edges of each not 1 to 4 */
     MOWQACHI_BUNDLE = 12,  /* site twice or different n in a bundle; call list's n not the path's */
     MOWQACHI_TWICE = 13,   /* a door or answer node in two files */
     MOWQACHI_DOOR = 14,    /* a pair of the call list's least set has a node that is no door of the bundle; a called node of the part is no door */
     MOWQACHI_RESULT = 15,  /* result over its limit */
     MOWQACHI_GROUPS = 16,  /* groups not just eight words, or with a word that is no range or has its low end above its high end */
-    MOWQACHI_COUNTS = 21   /* a count that is 0, over 15 labels, doors and targets over 65,536, or a part over 4,096 words */
+    MOWQACHI_COUNTS = 21   /* dearest part and path: a count that is 0, over 15 labels, doors and targets over 65,536, or a part over 4,096 words */
 };
 
 /* Our eight groups, as words: 0x50000000 + high end * 4,096 + low end. In the memory of x86-64 they are the bytes that a call takes. */
@@ -165,6 +171,16 @@ uint32_t mowqachi_second_reply_grouped(const uint8_t *part, size_t part_len, con
    Outputs: MOWQACHI_PART_BYTES and MOWQACHI_PATH_BYTES. */
 uint32_t mowqachi_dearest(uint32_t doors, uint32_t targets, uint32_t labels,
                           uint8_t *part, size_t part_len, uint8_t *path, size_t path_len, uint8_t *work, size_t work_len);
+
+/* For benches: a whole plant drawn from a state that the host lends, the same from the same state wherever it is drawn. A draw moves the state on to
+   state * 1,664,525 + 1,013,904,223, wrapping at 32 bits, and hands out the upper 16 bits of the new one. The whole is of site 0; its nodes are 0
+   to nodes - 1, none stopped, and node 0 is the root and the only door. Node by node `edges` edges are drawn, for each of them its label, the
+   remainder of a draw by 4,096, and then its target, the remainder of the next draw by `nodes`. A node's equal edges become one, and the rest are
+   put in order: there are at most 1 + nodes * (1 + edges) words. The old search accepts every such whole, with any path that it accepts.
+   The state moves on by 2 * nodes * edges draws, whatever becomes of equal edges; lent again, it gives the next plant. Any state will do.
+   Output: MOWQACHI_PART_BYTES. */
+uint32_t mowqachi_generate(uint32_t *state, uint32_t nodes, uint32_t edges,
+                           uint8_t *out, size_t out_len, uint8_t *work, size_t work_len);
 
 #ifdef __cplusplus
 }

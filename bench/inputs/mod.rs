@@ -1,4 +1,4 @@
-//! Heavy inputs of each call, of about a given number of words, valid but for those that a number is named for.
+//! Heavy inputs of each call, of about a given number of words or nodes, valid but for those that a number is named for.
 mod bundles;
 mod parts;
 mod paths;
@@ -6,6 +6,7 @@ mod paths;
 use crate::plain::{dear_part, dear_path};
 use crate::words::{bytes, OURS};
 use parts::Doors;
+use std::cell::Cell;
 
 /// What a call is asked: a part, a whole or a bundle, and whatever else the call takes.
 #[derive(Clone, Default)]
@@ -19,6 +20,10 @@ pub struct Ask {
     pub calls: Vec<u8>,
     /// Doors, outside targets and labels of the dearest files.
     pub counts: [u32; 3],
+    /// Nodes, and edges of each, of the plant that is generated.
+    pub plant: [u32; 2],
+    /// The state that is lent for it. Each call goes on from where the one before left it, so that no two draw the same plant.
+    pub state: Cell<u32>,
     /// What the call must answer.
     pub number: u32,
 }
@@ -32,13 +37,18 @@ fn shape(name: &'static str, make: fn(usize) -> Ask) -> Shape {
     Shape { name, make }
 }
 
-/// Numbers drawn by document 01's step.
+/// Numbers drawn by document 02's step.
 pub struct Draws(pub u32);
 
 impl Draws {
-    pub fn below(&mut self, n: u32) -> u32 {
+    /// The upper 16 bits of the state, moved on.
+    pub fn draw(&mut self) -> u32 {
         self.0 = self.0.wrapping_mul(1_664_525).wrapping_add(1_013_904_223);
-        (self.0 >> 16) * n >> 16
+        self.0 >> 16
+    }
+
+    pub fn below(&mut self, n: u32) -> u32 {
+        self.draw() * n >> 16
     }
 }
 
@@ -193,5 +203,22 @@ pub fn dearest() -> Vec<Shape> {
         shape("one target", |n| counting((n as u32 - 1) / 2, 1, 15)),
         shape("one door, one target, one label, at any size", |_| counting(1, 1, 1)),
         shape("a part of over 4,096 words (21)", |n| Ask { number: 21, ..counting(4096, n as u32, 15) }),
+    ]
+}
+
+/// The least state from which the first two edges are equal, whichever of the sizes the node count is.
+const EQUAL_EDGES: u32 = 2_189_437;
+
+fn generating(nodes: u32, edges: u32) -> Ask {
+    Ask { plant: [nodes, edges], state: Cell::new(EQUAL_EDGES), ..Ask::default() }
+}
+
+pub fn generate() -> Vec<Shape> {
+    vec![
+        shape("one edge a node", |n| generating(n as u32, 1)),
+        shape("two edges a node", |n| generating(n as u32, 2)),
+        shape("four edges a node", |n| generating(n as u32, 4)),
+        shape("one node, one edge, at any size", |_| generating(1, 1)),
+        shape("five edges a node (11)", |n| Ask { number: 11, ..generating(n as u32, 5) }),
     ]
 }

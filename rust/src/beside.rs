@@ -2,9 +2,10 @@
 
 use crate::calls;
 use crate::evaluation::dearest::{Counts, Rooms};
+use crate::evaluation::generator::Source;
 use crate::evaluation::part::Part;
 use crate::evaluation::words::*;
-use crate::evaluation::{self, BothFiles, Outcome, Room};
+use crate::evaluation::{self, BothFiles, Generated, Outcome, Room};
 use crate::random::Random;
 
 /// A call that reads a path is made with groups or without.
@@ -18,10 +19,11 @@ pub enum Call {
     Join { bundle: Vec<u8> },
 }
 
-/// What a call leaves: in its outputs, and last in its working buffer.
+/// What a call leaves: in the state, if it is lent one, in its outputs, and last in its working buffer.
 #[derive(PartialEq, Eq, Debug)]
 pub struct Left {
     pub number: u32,
+    pub state: Option<u32>,
     pub buffers: Vec<Vec<u8>>,
 }
 
@@ -33,7 +35,7 @@ impl Left {
             bytes.resize(*length, 0);
             bytes
         };
-        Left { number, buffers: lengths.iter().enumerate().map(left).collect() }
+        Left { number, state: None, buffers: lengths.iter().enumerate().map(left).collect() }
     }
 
     /// What the call with two results owes.
@@ -42,6 +44,15 @@ impl Left {
             Ok(files) => Left::owed(0, files, &rooms),
             Err(refusal) => Left::owed(refusal.number, &[], &rooms),
         }
+    }
+
+    /// What the call that is lent a state owes.
+    pub fn owed_drawn(outcome: &Generated, source: &Source, room: Room) -> Left {
+        let (number, words, state) = match outcome {
+            Ok((words, state)) => (0, words.clone(), *state),
+            Err(refusal) => (refusal.number, vec![], source.state),
+        };
+        Left { state: Some(state), ..Left::owed(number, &[words], &[room.out, room.work]) }
     }
 
     /// The words of a buffer, without zeros at its end.
@@ -64,7 +75,7 @@ fn made_in<const N: usize>(
     let kept = given.iter().zip(inputs).all(|(kept, bytes)| kept.inner() == *bytes);
     let guarded = given.iter().chain(&lent).all(Guarded::guards_stand);
     let buffers = lent.iter().map(|buffer| buffer.inner().to_vec()).collect();
-    (Left { number, buffers }, kept && guarded)
+    (Left { number, state: None, buffers }, kept && guarded)
 }
 
 impl Call {
@@ -231,6 +242,26 @@ pub fn check_dearest(random: &mut Random, counts: Counts, rooms: Rooms) -> BothF
         left.number,
         left.told(0),
         left.told(1),
+    );
+    outcome
+}
+
+/// Makes the call that draws a plant, with words of garbage around the state, and holds it to the evaluation's outcome, which is handed
+/// back. Panics where they differ.
+pub fn check_generate(random: &mut Random, source: &Source, room: Room) -> Generated {
+    let (before, behind) = (random.word(), random.word());
+    let mut lent = [before, source.state, behind];
+    let (left, stands) = made_in(random, &[], [room.out, room.work], |_, [out, work]| {
+        calls::generate(&mut lent[1], source.nodes, source.edges, out.inner_mut(), work.inner_mut())
+    });
+    let left = Left { state: Some(lent[1]), ..left };
+    let outcome = evaluation::generate(source, room);
+    assert!(
+        stands && lent == [before, lent[1], behind] && left == Left::owed_drawn(&outcome, source, room),
+        "generate {source:x?}, {room:?}: the library gives {}, state {:x} and {}, the evaluation {outcome:x?}",
+        left.number,
+        lent[1],
+        left.told(0),
     );
     outcome
 }

@@ -1,12 +1,15 @@
-//! The ten calls of the library, on slices. Each returns its number.
+//! The eleven calls of the library, on slices. Each returns its number.
 
-/// Declares calls under their C names, and makes of each a function on slices: inputs and numbers that it takes, if any, outputs and working
-/// buffer.
+/// Declares calls under their C names, and makes of each a function on slices: the state that it is lent, inputs and numbers that it takes,
+/// if any, outputs and working buffer.
 macro_rules! calls {
-    ($($name:ident = $symbol:ident($($input:ident),* $(; $($number:ident),+)?) -> $($out:ident),+;)+) => {
+    ($($name:ident = $symbol:ident(
+        $(&$state:ident)? $($input:ident),* $(; $($number:ident),+)?
+    ) -> $($out:ident),+;)+) => {
         mod library {
             extern "C" {
                 $(pub fn $symbol(
+                    $($state: *mut u32,)?
                     $($input: *const u8, _: usize,)*
                     $($($number: u32,)+)?
                     $($out: *mut u8, _: usize,)+
@@ -15,14 +18,16 @@ macro_rules! calls {
             }
         }
         $(pub fn $name(
+            $($state: &mut u32,)?
             $($input: &[u8],)*
             $($($number: u32,)+)?
             $($out: &mut [u8],)+
             work: &mut [u8],
         ) -> u32 {
-            // The pointers and lengths come from slices, so they are valid, and the mutable ones are disjoint from all others.
+            // The pointers and lengths come from references, so they are valid, and the mutable ones are disjoint from all others.
             unsafe {
                 library::$symbol(
+                    $($state,)?
                     $($input.as_ptr(), $input.len(),)*
                     $($($number,)+)?
                     $($out.as_mut_ptr(), $out.len(),)+
@@ -44,4 +49,5 @@ calls! {
     second_reply_grouped = mowqachi_second_reply_grouped(part, groups, path, calls) -> out;
     join = mowqachi_join(bundle) -> out;
     dearest = mowqachi_dearest(; doors, targets, labels) -> part, path;
+    generate = mowqachi_generate(&state; nodes, edges) -> out;
 }

@@ -2,11 +2,13 @@
 
 use crate::beside::{answer, Call, Left};
 use crate::evaluation::dearest::{Counts, Rooms};
+use crate::evaluation::generator::Source;
 use crate::evaluation::groups::{read_groups, Groups, OURS};
 use crate::evaluation::hub::{read_first_bundle, FirstBundle};
 use crate::evaluation::path::{read_path, read_path_by, MayStand, Path};
 use crate::evaluation::words::*;
-use crate::evaluation::{BothFiles, Outcome, Room};
+use crate::evaluation::{BothFiles, Generated, Outcome, Room};
+use crate::mistakes::generator::{self, Other};
 use crate::mistakes::*;
 
 /// The call with its plant's and path's words taken for others, if any of them is.
@@ -108,8 +110,21 @@ pub fn found_out_by_counts(counts: Counts, rooms: Rooms, outcome: &BothFiles) ->
     let right = Left::owed_both(outcome, rooms);
     let accepting = |accepting: &Accepting| right.number != 1 && accepting(counts) != outcome.is_ok();
     let written = |written: &Written| outcome.as_ref().map_or(false, |files| written(counts) != *files);
-    let leaving = |leaving: &Leaving| leaving(counts, rooms) != right;
+    let leaving = |leaving: &Leaving| leaving(&(counts, rooms)) != right;
     [names(&COUNTS, accepting), names(&WRITTEN, written), names(&LEAVING, leaving)].concat()
+}
+
+/// The mistakes that a call for a drawn plant finds out: an accepted one those in how it is drawn, one that comes to its counts those in which
+/// are accepted, any one those in what is left.
+pub fn found_out_by_source(source: &Source, room: Room, outcome: &Generated) -> Vec<&'static str> {
+    let right = Left::owed_drawn(outcome, source, room);
+    let accepting = |accepting: &generator::Accepting| {
+        right.number != 1 && accepting(source.nodes, source.edges) != outcome.is_ok()
+    };
+    let drawing = |other: &Other| outcome.as_ref().map_or(false, |own| other.program().draw(source) != *own);
+    let leaving = |leaving: &generator::Leaving| leaving(&(*source, room)) != right;
+    let counts = names(&generator::COUNTS, accepting);
+    [counts, names(&generator::DRAWING, drawing), names(&generator::LEAVING, leaving)].concat()
 }
 
 /// The mistakes in reading label words, and the groups that are handed in, by which a path is refused, or `of` it is not what is right.

@@ -1,9 +1,12 @@
 //! Mistakes, each as what is taken for right by a program that makes it: another word, other groups, another rule. The tests fail where none
 //! of their cases would find one out.
 
+pub mod generator;
 pub mod growth;
 pub mod learning;
+mod leaving;
 
+use self::leaving::*;
 use crate::beside::Left;
 use crate::evaluation::dearest::{check_counts, dearest_files, Counts, Rooms, LEAST_ROOMS};
 use crate::evaluation::groups::{Groups, OURS};
@@ -42,8 +45,10 @@ pub type Counted = fn(&[Vec<usize>]) -> usize;
 pub type Accepting = fn(Counts) -> bool;
 /// The dearest files as they are written.
 pub type Written = fn(Counts) -> [Vec<u32>; 2];
-/// What is left by a call for the dearest files.
-pub type Leaving = fn(Counts, Rooms) -> Left;
+/// A call for the dearest files: its counts, and its buffers.
+pub type InRooms = (Counts, Rooms);
+/// What is left by it.
+pub type Leaving = fn(&InRooms) -> Left;
 
 /// Nodes that are stopped, by root and door bit.
 pub const STOPPED: [Named<Taken>; 3] = [
@@ -223,27 +228,22 @@ pub const WRITTEN: [Named<Written>; 18] = [
 /// What is left by a call for the dearest files. A program that does not look at an output's length is found out wherever one is that is
 /// content with room for its file.
 pub const LEAVING: [Named<Leaving>; 16] = [
-    ("21 ahead of 1", |counts, rooms| match check_counts(counts) {
-        Err(refusal) => Left::owed(refusal.number, &[], &rooms),
-        Ok(()) => Left::owed_both(&dearest(counts, rooms), rooms),
-    }),
-    ("room for the part's words accepted", |counts, rooms| content(counts, rooms, 0)),
-    ("room for the path's words accepted", |counts, rooms| content(counts, rooms, 1)),
-    ("any working buffer accepted", |counts, rooms| content(counts, rooms, 2)),
-    ("a part's output of 16,384 bytes refused", |counts, rooms| with_length(counts, rooms, 0, one_less)),
-    ("a path's output of 256 bytes refused", |counts, rooms| with_length(counts, rooms, 1, one_less)),
-    ("a working buffer of 32,768 bytes refused", |counts, rooms| with_length(counts, rooms, 2, one_less)),
-    ("the part's output left after a refusal", |counts, rooms| as_lent(counts, rooms, 0, after_refusal)),
-    ("the path's output left after a refusal", |counts, rooms| as_lent(counts, rooms, 1, after_refusal)),
-    ("the working buffer left after a refusal", |counts, rooms| as_lent(counts, rooms, 2, after_refusal)),
-    ("the part's output left past its words", |counts, rooms| as_lent(counts, rooms, 0, |file| file)),
-    ("the path's output left past its words", |counts, rooms| as_lent(counts, rooms, 1, |file| file)),
-    ("the working buffer left", |counts, rooms| as_lent(counts, rooms, 2, |file| file)),
-    ("the part's output left past 16,384 bytes", |counts, rooms| as_lent(counts, rooms, 0, |_| Some(16_384))),
-    ("the path's output left past 256 bytes", |counts, rooms| as_lent(counts, rooms, 1, |_| Some(256))),
-    ("the working buffer left past 32,768 bytes", |counts, rooms| {
-        as_lent(counts, rooms, 2, |_| Some(32_768))
-    }),
+    ("21 ahead of 1", numbers_first),
+    ("room for the part's words accepted", |call| content(call, 0)),
+    ("room for the path's words accepted", |call| content(call, 1)),
+    ("any working buffer accepted", |call| content(call, 2)),
+    ("a part's output of 16,384 bytes refused", |call| one_short(call, 0)),
+    ("a path's output of 256 bytes refused", |call| one_short(call, 1)),
+    ("a working buffer of 32,768 bytes refused", |call| one_short(call, 2)),
+    ("the part's output left after a refusal", |call| left_after_refusal(call, 0)),
+    ("the path's output left after a refusal", |call| left_after_refusal(call, 1)),
+    ("the working buffer left after a refusal", |call| left_after_refusal(call, 2)),
+    ("the part's output left past its words", |call| left_past_file(call, 0)),
+    ("the path's output left past its words", |call| left_past_file(call, 1)),
+    ("the working buffer left", |call| left_past_file(call, 2)),
+    ("the part's output left past 16,384 bytes", |call| left_past_least(call, 0)),
+    ("the path's output left past 256 bytes", |call| left_past_least(call, 1)),
+    ("the working buffer left past 32,768 bytes", |call| left_past_least(call, 2)),
 ];
 
 fn length(doors: &[Vec<usize>]) -> usize {
@@ -426,34 +426,18 @@ fn ors_put_off(ranges: usize, most: usize) -> Vec<u32> {
     [vec![range(0, 4095); before], behind, vec![OR; before - 1], vec![STAR]].concat()
 }
 
-/// With the length of a buffer taken for another.
-fn with_length(counts: Counts, rooms: Rooms, at: usize, other: impl Fn(usize) -> usize) -> Left {
-    let mut taken = rooms;
-    taken[at] = other(rooms[at]);
-    Left::owed_both(&dearest(counts, taken), rooms)
-}
+impl Numbered<3> for InRooms {
+    const LEAST: Rooms = LEAST_ROOMS;
 
-fn one_less(length: usize) -> usize {
-    length.saturating_sub(1)
-}
+    fn lengths(&self) -> Rooms {
+        self.1
+    }
 
-/// With the least length for that of a buffer that has room for its file, if it has one.
-fn content(counts: Counts, rooms: Rooms, at: usize) -> Left {
-    let files = check_counts(counts).map(|_| dearest_files(counts));
-    let least = files.map_or(usize::MAX, |files| files.get(at).map_or(0, |file| 4 * file.len()));
-    let taken = |length: usize| if length < least { length } else { length.max(LEAST_ROOMS[at]) };
-    with_length(counts, rooms, at, taken)
-}
+    fn owed(&self, taken: Rooms) -> Left {
+        Left::owed_both(&dearest(self.0, taken), self.1)
+    }
 
-/// With the bytes of a buffer as they were lent, from where `from` has it by the bytes of its file, which a refusal has not.
-fn as_lent(counts: Counts, rooms: Rooms, at: usize, from: fn(Option<usize>) -> Option<usize>) -> Left {
-    let outcome = dearest(counts, rooms);
-    let mut left = Left::owed_both(&outcome, rooms);
-    let file = outcome.ok().map(|files| files.get(at).map_or(0, |file| 4 * file.len()));
-    left.buffers[at].iter_mut().skip(from(file).unwrap_or(usize::MAX)).for_each(|byte| *byte = 0x55);
-    left
-}
-
-fn after_refusal(file: Option<usize>) -> Option<usize> {
-    file.map_or(Some(0), |_| None)
+    fn files(&self) -> Option<Vec<Vec<u32>>> {
+        check_counts(self.0).ok().map(|_| dearest_files(self.0).to_vec())
+    }
 }

@@ -1,13 +1,16 @@
 //! Random and damaged inputs for every call, by the library and by the evaluation; every check of the documents must have refused some, and
-//! every mistake in reading stopped nodes and labels outside a range, in counting operands, in loading groups, about nodes that are no doors
-//! and about the dearest files must have been found out by some.
+//! every mistake in reading stopped nodes and labels outside a range, in counting operands, in loading groups, about nodes that are no doors,
+//! about the dearest files and about plants that are drawn must have been found out by some.
 
-use mowqachi_tests::beside::check_dearest;
+use mowqachi_tests::beside::{check_dearest, check_generate};
+use mowqachi_tests::evaluation::generator::LEAST_ROOM;
 use mowqachi_tests::evaluation::words::Refusal;
-use mowqachi_tests::finding::{found_out_by_call, found_out_by_counts};
-use mowqachi_tests::generate::calls::{call, room};
+use mowqachi_tests::finding::{found_out_by_call, found_out_by_counts, found_out_by_source};
+use mowqachi_tests::generate::calls::{call, room, room_from};
 use mowqachi_tests::generate::counts::{counts, rooms};
+use mowqachi_tests::generate::sources::source;
 use mowqachi_tests::meeting::meet;
+use mowqachi_tests::mistakes::generator::in_drawn_plants;
 use mowqachi_tests::mistakes::*;
 use mowqachi_tests::random::{cases, Random};
 
@@ -95,6 +98,7 @@ const NUMBERS: Checks = &[
     (21, "doors and targets over 65,536"),
     (21, "part over its limit"),
 ];
+const SIZES: Checks = &[(11, "no nodes"), (11, "over 256 nodes"), (11, "no edges"), (11, "over 4 edges")];
 const RESULT: Checks = &[(15, "over its limit")];
 
 /// Inputs, each with the lists of its checks.
@@ -114,9 +118,10 @@ fn mistakes(inputs: Inputs) -> Vec<&'static str> {
     let (nodes, path, groups) = (has(&["part", "whole"]), has(&["path"]), has(&["groups"]));
     let in_bundles = names(&STRAYS, |_| has(&["first bundle"]));
     let in_files = if has(&["counts"]) { in_dearest_files() } else { vec![] };
+    let in_plants = if has(&["nodes and edges"]) { in_drawn_plants() } else { vec![] };
     let in_words = [names(&STOPPED, |_| nodes), names(&OUTSIDE, |_| path), names(&WAITING, |_| path)];
     let in_groups = [names(&GROUPS, |_| groups), names(&LOADED, |_| groups), names(&PLACES, |_| groups)];
-    [&in_words[..], &in_groups, &[in_bundles, in_files]].concat().concat()
+    [&in_words[..], &in_groups, &[in_bundles, in_files, in_plants]].concat().concat()
 }
 
 fn named(refusal: Option<&Refusal>) -> String {
@@ -210,5 +215,14 @@ fn dearest() {
         let (counts, rooms) = (counts(random), rooms(random));
         let outcome = check_dearest(random, counts, rooms);
         (found_out_by_counts(counts, rooms, &outcome), outcome.err())
+    });
+}
+
+#[test]
+fn generate() {
+    share("generate", &[("buffers", &[ROOM]), ("nodes and edges", &[SIZES])], |random| {
+        let (source, room) = (source(random), room_from(random, LEAST_ROOM));
+        let outcome = check_generate(random, &source, room);
+        (found_out_by_source(&source, room, &outcome), outcome.err())
     });
 }

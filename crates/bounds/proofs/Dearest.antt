@@ -6,7 +6,8 @@ use native.Mathlib.Omega.{arith}
 use native.Mathlib.Nat.{le-antisymm, one-le-mul}
 use lib.Dec.{T as Passes}
 use lib.ListN.{length, drop, length-map}
-use Rattle.sets.specs.Sets.{Mem, Distinct, _⊆_}
+use Rattle.sets.specs.Sets.{Mem, Distinct, _⊆_, span}
+use Rattle.sets.proofs.Spans.{span-length, span-iff, span-ascending}
 use Rattle.sets.proofs.Sums.{at-least, by-length, flatten-by}
 use Rattle.sets.proofs.Sets.{flatten-map-iff, map-ascending}
 use Rattle.sets.proofs.Lengths.{pigeonhole, ascending-distinct}
@@ -28,11 +29,11 @@ use Rattle.first_replies.specs.FirstReply.{Reported, IsFirstReply, firstReply}
 use Rattle.first_replies.proofs.FirstReplies.{first-reply}
 use Rattle.site_first.specs.First.{firstReplyCall}
 use Rattle.site_first.proofs.FirstCalls.{first-outcome}
-use Rattle.dearest.specs.Dearest.{span, dearPart, dearPath}
-use Rattle.dearest.proofs.Accepted.{Counts, counts-iff, span-length, part-length, path-fits}
+use Rattle.dearest.specs.Dearest.{dearPart, dearPath}
+use Rattle.dearest.proofs.Accepted.{Counts, counts-iff, part-length, path-fits}
 use Rattle.bounds.specs.Longest.{longest, PartOf, PathOf, Dearest, Request13}
 use Rattle.bounds.proofs.Bound.{row-least, reply-by, bound}
-use Rattle.bounds.proofs.DearPart.{span-iff, span-ascending, link, small-target, part-header, part-accepted, part-words, part-nodes, part-doors, part-roots, part-stopped, part-links, target-no-node, part-outside}
+use Rattle.bounds.proofs.DearPart.{link, small-target, part-header, part-accepted, part-words, part-nodes, part-doors, part-roots, part-stopped, part-links, target-no-node, part-outside}
 use Rattle.bounds.proofs.DearPath.{path-accepted, path-words, path-labels, path-steps}
 
 -- Every target with every position

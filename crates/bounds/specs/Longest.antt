@@ -7,12 +7,13 @@ use lib.ListN.{length, getD, drop}
 use Rattle.files.specs.Word.{words, bytesOf}
 use Rattle.files.specs.Field.{siteOf, labelsOf, edgeWord}
 use Rattle.files.specs.Outcome.{accepted, refused}
+use Rattle.sets.specs.Sets.{span}
 use Rattle.files.specs.Part.{partCheck, nodes, roots, doors, edges, outside}
 use Rattle.files.specs.Path.{pathCheck}
 use Rattle.files.specs.Groups.{groupsCheck, loaded}
 use Rattle.first_replies.specs.FirstReply.{IsFirstReply}
 use Rattle.site_first.specs.First.{firstReplyCall}
-use Rattle.dearest.specs.Dearest.{span, dearPart, dearPath, countsCheck}
+use Rattle.dearest.specs.Dearest.{dearPart, dearPath, countsCheck}
 
 -- 1 + D × (1 + (n + 1) × (1 + T × n)) words
 abbrev pub longest : ℕ → ℕ → ℕ → ℕ

@@ -8,10 +8,12 @@ use native.Mathlib.Omega.{arith}
 use native.Mathlib.Nat.{le-trans, mul-le-mul-left, mul-le-mul-right}
 use lib.Dec.{leb, ltb}
 use lib.ListN.{length, length-append, length-map}
+use Rattle.sets.specs.Sets.{span}
+use Rattle.sets.proofs.Spans.{span-length}
 use Rattle.files.specs.Limits.{partWords}
 use Rattle.files.specs.Refuse.{_unless_}
 use Rattle.files.proofs.Checks.{checks}
-use Rattle.dearest.specs.Dearest.{span, dearDoor, dearPart, dearRest, dearPath, countsCheck}
+use Rattle.dearest.specs.Dearest.{dearDoor, dearPart, dearRest, dearPath, countsCheck}
 
 -- no zero, n not above 15, D + T not above 65,536, the part not over 4,096 words
 pub record Counts (D T n : ℕ) : Type 0 where
@@ -29,10 +31,6 @@ counts-iff D T n = (
       record { doors = h .0 .0 .0 .0 .0; targets = h .0 .0 .0 .0 .1; labels = h .0 .0 .0 .1; few = h .0 .0 .1; nodes = h .0 .1; small = h .1 },
   λ c. simp checks (((((c .doors, c .targets), c .labels), c .few), c .nodes), c .small),
 )
-
-pub span-length : (k d : ℕ) → length (span k d) ≡ d
-span-length k zero = refl
-span-length k (suc d) = ap suc (span-length (suc k) d)
 
 doors-length : (D T : ℕ) (xs : List ℕ) → length (flatten (map (dearDoor D T) xs)) ≡ length xs * (1 + T)
 unfolding flatten

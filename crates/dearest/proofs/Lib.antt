@@ -1,3 +1,3 @@
 pub mod Accepted
-pub mod Spanning
+pub mod Writing
 pub mod Answering

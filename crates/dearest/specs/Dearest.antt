@@ -4,16 +4,12 @@ use Prim.Native.Nat.{ℕ, zero, suc, _+_, _-_, _*_}
 use mathlib.Core.Bool.{true, false, _&&_}
 use mathlib.Core.List.{List, [], _∷_, map, flatten}
 use lib.Dec.{leb, ltb}
+use Rattle.sets.specs.Sets.{span}
 use Rattle.files.specs.Field.{file, nodeWord, edgeWord}
 use Rattle.files.specs.Path.{rangeWord, operatorWord}
 use Rattle.files.specs.Refuse.{_then_, _unless_, roomCheck}
 use Rattle.files.specs.Outcome.{zeros, padded}
 use Rattle.files.specs.Limits.{partWords, pathWords}
-
--- d numbers from k on
-abbrev pub span : ℕ → ℕ → List ℕ
-span k zero = []
-span k (suc d) = k ∷ span (suc k) d
 
 -- a door, linked with label 0 to the T nodes after the D doors
 abbrev pub dearDoor : ℕ → ℕ → ℕ → List ℕ

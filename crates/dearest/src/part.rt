@@ -8,9 +8,10 @@ use output::writer::push;
 ghost use mathlib.Core.List.{map, flatten};
 ghost use Prim.Native.Nat.{_+_, _*_, _≤_, _<_};
 ghost use lib.ListN.{length};
+ghost use Rattle.sets.specs.Sets.{span};
 ghost use Rattle.files.specs.Limits.{partWords};
 ghost use Rattle.output.specs.Writer.{Writes, Filed};
-ghost use Rattle.dearest.specs.Dearest.{span, dearDoor, dearPart};
+ghost use Rattle.dearest.specs.Dearest.{dearDoor, dearPart};
 
 // A door's words, behind `start` others; hands back how many there are then.
 fn write_door(x: u32, doors: u32, targets: u32, out: &mut [u8], start: usize) -> usize

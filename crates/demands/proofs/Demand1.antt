@@ -1,5 +1,5 @@
 -- Demand 1, for all bytes and all buffers. A call's checks give only its numbers (Numbers); and what the old search, the cutter, a second reply and
--- joining owe is within its limit wherever the checks pass, so that 15 is none of theirs; so are the two files of the planners' call. Assumes nothing.
+-- joining owe is within its limit wherever the checks pass, so that 15 is none of theirs; so are the two files of the planners' call and that of the load bench. Assumes nothing.
 use mathlib.Core.Path.{_≡_, refl, ap}
 use mathlib.Core.Logic.{_⊎_, inl, inr}
 use mathlib.Core.Bool.{Bool, not, _&&_}
@@ -15,13 +15,14 @@ use Rattle.sets.proofs.Tests.{and-iff, le-iff}
 use Rattle.sets.proofs.Filter.{all-iff}
 use Rattle.files.specs.Word.{words}
 use Rattle.files.specs.Refuse.{_then_, roomCheck, sizeCheck}
-use Rattle.files.specs.Outcome.{outcome, leaves}
+use Rattle.files.specs.Outcome.{outcome, leaves, leavesLent}
+use Rattle.files.specs.Limits.{partWords}
 use Rattle.files.specs.Part.{partCheck, wholeCheck}
 use Rattle.files.specs.Path.{pathCheck}
 use Rattle.files.specs.Groups.{groupsCheck, loaded}
 use Rattle.files.proofs.Checks.{then-iff, outcome-gives, outcome-over}
 use Rattle.files.proofs.Parts.{whole-part}
-use Rattle.output.specs.Frame.{input, InputRead, Passed}
+use Rattle.output.specs.Frame.{input, also, InputRead, Passed}
 use Rattle.output.proofs.Frame.{passed}
 use Rattle.old.specs.Old.{listed, oldSearchCall, oldSearchGroupedCall}
 use Rattle.old.proofs.OldSearch.{listed-length}
@@ -39,9 +40,13 @@ use Rattle.hub_join.proofs.Joining.{joined-list, joined-fits}
 use Rattle.dearest.specs.Dearest.{dearPart, dearPath, leavesBoth, dearestNumber, dearestCall}
 use Rattle.dearest.specs.Answer.{Writable}
 use Rattle.dearest.proofs.Answering.{writable, files-fit}
+use Rattle.draws.specs.Draws.{drawn}
+use Rattle.generator.specs.Generate.{generated, spent, boundsCheck, generateCall}
+use Rattle.generator.proofs.Answering.{within}
+use Rattle.generator.proofs.Wholes.{generated-fits}
 use Rattle.demands.specs.PlantOf.{plantOf}
 use Rattle.demands.specs.Grouped.{own}
-use Rattle.demands.specs.Demand1.{Settles, SettlesBoth, dearestNumbers, rows, Demand1}
+use Rattle.demands.specs.Demand1.{Settles, SettlesBoth, SettlesLent, dearestNumbers, generateNumbers, rows, Demand1}
 use Rattle.demands.proofs.PlantOf.{plant-holds}
 use Rattle.demands.proofs.OldSearch.{old-final}
 use Rattle.demands.proofs.Grouping.{asks-checked, final-asked}
@@ -78,6 +83,20 @@ both-settle d t n a b m = go (dearestNumber a b m d t n) refl (search among)
         inr (p, w .part-holds, q, w .path-holds, refl)
     go (suc k) e (inl z) = absurd (omega arith)
     go (suc k) e (inr i) = inl (suc k, i, refl)
+
+-- The call that is lent a state: where the counts are accepted, the file is within its limit.
+lent-settle : (s e k n m : ℕ) → SettlesLent generateNumbers 4096 (λ f. f ≡ generated (drawn s) e k) (generateCall n m s e k) s (spent s e k) n m
+unfolding generateCall
+lent-settle s e k n m = go (roomCheck partWords n m then boundsCheck e k) refl (search among)
+  where
+    go : (x : ℕ) → x ≡ (roomCheck partWords n m then boundsCheck e k) → Among generateNumbers x
+        → SettlesLent generateNumbers 4096 (λ f. f ≡ generated (drawn s) e k) (outcome x partWords (generated (drawn s) e k)) s (spent s e k) n m
+    go zero x i =
+        let p : Passed partWords n m (also (boundsCheck e k) ∷ []) = passed {cs = also (boundsCheck e k) ∷ []} refl (record { is = x }) refl refl in
+        let fits : length (generated (drawn s) e k) ≤ partWords = omega (arith, generated-fits (drawn s) (within e k (p .read .0))) in
+        inr (generated (drawn s) e k, refl, fits, p .room .holds, ap (λ o. leavesLent o s (spent s e k) n m) (outcome-gives partWords (generated (drawn s) e k) fits))
+    go (suc x) e (inl z) = absurd (omega arith)
+    go (suc x) e (inr i) = inl (suc x, i, refl)
 
 pub demand-1 : Demand1
 unfolding oldSearchCall cutCall firstReplyCall callListCall secondReplyCall joinCall oldSearchGroupedCall firstReplyGroupedCall secondReplyGroupedCall
@@ -139,6 +158,7 @@ demand-1 = record {
       let asked = loaded (words groups) (words path) in
       (second-reply (words part) asked (words calls) a (asks-checked (own groups) (words path) g b), inl (omega (arith, second-length (words part) asked (words calls) a, p .few))));
   dearest = both-settle;
+  generate = lent-settle;
   -- by computation
   numbered = λ row i k j.
       let test : ℕ → Bool = λ k. leb 1 k && leb k 21 in

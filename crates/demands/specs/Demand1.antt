@@ -1,5 +1,5 @@
 -- Believed. The user's demand 1. Any file, cut list, bundle, groups or counts, with buffers of any length, get their one result or a refusal under a
--- number of document 01 or 02, and a refusal leaves outputs and working buffer all zero. It is said of `leaves` of the calls' outcomes, and that is
+-- number of document 01 or 02, and a refusal leaves outputs and working buffer all zero, and a lent state unmoved. It is said of `leaves` of the calls' outcomes, and that is
 -- what the calls leave, by their contracts (mowqachi/src/lib.rt). That a call ends and touches nothing else is what the check proves of every function.
 use Prim.Native.Nat.{ℕ, _*_, _≤_}
 use mathlib.Core.Path.{_≡_}
@@ -8,7 +8,7 @@ use mathlib.Core.List.{List, [], _∷_}
 use lib.ListN.{length, drop}
 use Rattle.sets.specs.Sets.{Mem}
 use Rattle.files.specs.Word.{words}
-use Rattle.files.specs.Outcome.{Outcome, zeros, padded, left, leaves}
+use Rattle.files.specs.Outcome.{Outcome, zeros, padded, left, leaves, leftLent, leavesLent}
 use Rattle.files.specs.Groups.{loaded}
 use Rattle.expressions.specs.Labels.{exprOf}
 use Rattle.first_replies.specs.FirstReply.{IsFirstReply}
@@ -20,6 +20,8 @@ use Rattle.old.specs.Old.{oldSearchCall, oldSearchGroupedCall}
 use Rattle.cutter.specs.Cut.{cutCall}
 use Rattle.cutter.specs.Cut as cutter
 use Rattle.dearest.specs.Dearest.{dearPart, dearPath, LeftBoth, leftBoth, dearestCall}
+use Rattle.draws.specs.Draws.{drawn}
+use Rattle.generator.specs.Generate.{generated, spent, generateCall}
 use Rattle.demands.specs.Plant.{FinalList, FinalListBy}
 use Rattle.demands.specs.PlantOf.{plantOf}
 
@@ -36,6 +38,12 @@ abbrev pub SettlesBoth : List ℕ → ℕ → ℕ → List ℕ → List ℕ → 
 SettlesBoth numbers limit limit′ part path l a b m =
     ((k : ℕ) × Mem k numbers × (l ≡ leftBoth k (zeros a) (zeros b) (zeros m)))
     ⊎ ((length part ≤ limit) × (4 * limit ≤ a) × (length path ≤ limit′) × (4 * limit′ ≤ b) × (l ≡ leftBoth 0 (padded a part) (padded b path) (zeros m)))
+
+-- and of a call that is lent a number: a refusal leaves it as `kept`, and acceptance as `given`
+abbrev pub SettlesLent {ℓ} : List ℕ → ℕ → (List ℕ → Type ℓ) → Outcome → ℕ → ℕ → ℕ → ℕ → Type ℓ
+SettlesLent numbers limit Owed o kept given n m =
+    ((k : ℕ) × Mem k numbers × (leavesLent o kept given n m ≡ leftLent kept (left k (zeros n) (zeros m))))
+    ⊎ ((f : List ℕ) × Owed f × (length f ≤ limit) × (4 * limit ≤ n) × (leavesLent o kept given n m ≡ leftLent given (left 0 (padded n f) (zeros m))))
 
 -- The numbers of each call, as the table of docs/CALLS.md has them
 abbrev pub oldSearchNumbers : List ℕ
@@ -59,6 +67,9 @@ joinNumbers = 1 ∷ 2 ∷ 3 ∷ 4 ∷ 5 ∷ 6 ∷ 12 ∷ 13 ∷ []
 abbrev pub dearestNumbers : List ℕ
 dearestNumbers = 1 ∷ 21 ∷ []
 
+abbrev pub generateNumbers : List ℕ
+generateNumbers = 1 ∷ 11 ∷ []
+
 -- a grouped call has those of the call without groups, and 16
 abbrev pub grouped : List ℕ → List ℕ
 grouped numbers = 16 ∷ numbers
@@ -66,7 +77,7 @@ grouped numbers = 16 ∷ numbers
 abbrev pub rows : List (List ℕ)
 rows =
     oldSearchNumbers ∷ cutNumbers ∷ firstReplyNumbers ∷ callListNumbers ∷ secondReplyNumbers ∷ joinNumbers
-    ∷ grouped oldSearchNumbers ∷ grouped firstReplyNumbers ∷ grouped secondReplyNumbers ∷ dearestNumbers ∷ []
+    ∷ grouped oldSearchNumbers ∷ grouped firstReplyNumbers ∷ grouped secondReplyNumbers ∷ dearestNumbers ∷ generateNumbers ∷ []
 
 -- Demand 1: for all bytes and all buffers. What a call owes is said in the documents' words, which one file at most meets (docs/DECISIONS.md, 68).
 pub record Demand1 : Type 1 where
@@ -85,5 +96,7 @@ pub record Demand1 : Type 1 where
   pub second-reply-grouped : (part groups path calls : List ℕ) (n m : ℕ)
       → Settles (grouped secondReplyNumbers) 4096 (IsSecondReply (words part) (loaded (words groups) (words path)) (words calls)) (secondReplyGroupedCall n m part groups path calls) n m
   pub dearest : (D T n a b m : ℕ) → SettlesBoth dearestNumbers 4096 64 (dearPart D T) (dearPath n) (dearestCall a b m D T n) a b m
+  pub generate : (s nodes edges n m : ℕ)
+      → SettlesLent generateNumbers 4096 (λ f. f ≡ generated (drawn s) nodes edges) (generateCall n m s nodes edges) s (spent s nodes edges) n m
   -- the numbers are those of documents 01 and 02, and 0 is none of them: a call gives its result or is refused, and not both
   pub numbered : (row : List ℕ) → Mem row rows → (k : ℕ) → Mem k row → (1 ≤ k) × (k ≤ 21)

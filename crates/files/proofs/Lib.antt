@@ -11,6 +11,7 @@ pub mod Groups
 pub mod Fields
 pub mod Blocks
 pub mod Parts
+pub mod Compose
 pub mod Ordered
 pub mod Replies
 pub mod Rows

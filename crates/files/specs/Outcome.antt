@@ -37,3 +37,19 @@ left number output work = record { number = number; output = output; work = work
 abbrev pub leaves : Outcome → ℕ → ℕ → Left
 leaves (refused k) n m = left k (zeros n) (zeros m)
 leaves (accepted result) n m = left 0 (padded n result) (zeros m)
+
+-- what a call leaves that is lent a number: the number as it is given back, and the rest
+pub record LeftLent : Type 0 where
+  pub lent : ℕ
+  pub rest : Left
+
+abbrev pub leftLent : ℕ → Left → LeftLent
+leftLent lent rest = record { lent = lent; rest = rest }
+
+-- the lent number, which a refusal leaves as `kept`, and acceptance as `given`
+abbrev pub lentBy : Outcome → ℕ → ℕ → ℕ
+lentBy (refused k) kept given = kept
+lentBy (accepted result) kept given = given
+
+abbrev pub leavesLent : Outcome → ℕ → ℕ → ℕ → ℕ → LeftLent
+leavesLent o kept given n m = leftLent (lentBy o kept given) (leaves o n m)

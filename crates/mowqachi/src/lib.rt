@@ -1,8 +1,8 @@
 // The calls, under the names that the C host uses. Each has no precondition, and its contract is one equation: what it leaves in number,
-// outputs and working buffer is what the definition of document 01 or 02 gives. Demand 3 (demands/proofs/Demand.antt) is about these outcomes.
+// outputs, lent number and working buffer is what the definition of document 01 or 02 gives. Demand 3 (demands/proofs/Demand.antt) is about these outcomes.
 ghost use mathlib.Core.Path.{_≡_};
 ghost use lib.ListN.{length};
-ghost use Rattle.files.specs.Outcome.{left, leaves};
+ghost use Rattle.files.specs.Outcome.{left, leaves, leftLent, leavesLent};
 ghost use Rattle.site_first.specs.First.{firstReplyCall, firstReplyGroupedCall};
 ghost use Rattle.site_second.specs.Second.{secondReplyCall, secondReplyGroupedCall};
 ghost use Rattle.hub_calls.specs.CallList.{callListCall};
@@ -10,8 +10,10 @@ ghost use Rattle.hub_join.specs.Join.{joinCall};
 ghost use Rattle.old.specs.Old.{oldSearchCall, oldSearchGroupedCall};
 ghost use Rattle.cutter.specs.Cut.{cutCall};
 ghost use Rattle.dearest.specs.Dearest.{leftBoth, dearestCall};
+ghost use Rattle.generator.specs.Generate.{spent, generateCall};
 use cutter::call::cut;
 use dearest::call::dearest;
+use generator::call::generate;
 use hub_calls::call::call_list;
 use hub_join::call::join;
 use old::call::old_search;
@@ -156,4 +158,19 @@ pub extern "C" fn mowqachi_dearest(
         ≡ dearestCall (length (now (part .entry))) (length (now (path .entry))) (length (now (work .entry))) doors targets labels ⌝ }
 {
     dearest(doors, targets, labels, part, path, work)
+}
+
+#[no_mangle]
+pub extern "C" fn mowqachi_generate(
+    state: &mut u32,
+    nodes: u32,
+    edges: u32,
+    out: &mut [u8],
+    work: &mut [u8],
+) -> u32
+    ensures { λ r. ⌜ leftLent (now (state .exit)) (left r (now (out .exit)) (now (work .exit)))
+        ≡ leavesLent (generateCall (length (now (out .entry))) (length (now (work .entry))) (now (state .entry)) nodes edges)
+        (now (state .entry)) (spent (now (state .entry)) nodes edges) (length (now (out .entry))) (length (now (work .entry))) ⌝ }
+{
+    generate(state, nodes, edges, out, work)
 }

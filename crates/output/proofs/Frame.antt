@@ -1,5 +1,5 @@
 -- Laws of the frame of every call, for any checks x, limit and result. Assumes nothing.
-use mathlib.Core.Path.{_≡_, refl, sym, _∙_, ap}
+use mathlib.Core.Path.{_≡_, refl, sym, _∙_, ap, ap₂}
 use mathlib.Core.Bool.{Bool, true, false}
 use mathlib.Core.List.{List, [], _∷_}
 use Prim.Native.Nat.{ℕ, zero, suc, _-_, _*_, _%_, _^_, _≤_, _<_}
@@ -11,7 +11,7 @@ use lib.Seq.{take-all}
 use Rattle.files.specs.Word.{putWord}
 use Rattle.files.specs.Field.{file, headerWord}
 use Rattle.files.specs.Refuse.{_then_, _unless_, roomCheck, sizeCheck}
-use Rattle.files.specs.Outcome.{Outcome, refused, accepted, outcome, zeros, left, leaves}
+use Rattle.files.specs.Outcome.{Outcome, refused, accepted, outcome, zeros, left, leaves, leftLent, lentBy, leavesLent}
 use Rattle.files.proofs.Checks.{checks, then-iff, then-assoc, refused-first, passed-first, outcome-gives, outcome-over}
 use Rattle.files.proofs.Words.{words-length}
 use Rattle.files.specs.Limits.{finalWords, workBytes}
@@ -156,3 +156,16 @@ settles {o} {n} {m} out work f p q e = e ∙ rw (withholds out f p refl, f .numb
     by : (o : Outcome) → left (leaves o n 0 .number) (leaves o n 0 .output) (zeros m) ≡ leaves o n m
     by (refused j) = refl
     by (accepted ws) = refl
+
+-- A call that is lent a number: after a refusal it is as it was kept, after acceptance as it is given back
+
+pub lent-kept : (x limit : ℕ) (result : List ℕ) (kept given : ℕ) {k : ℕ} → k ≡ x → (k ≡ 0 → ⊥) → kept ≡ lentBy (outcome x limit result) kept given
+lent-kept zero limit result kept given c h = absurd (h c)
+lent-kept (suc x) limit result kept given c h = refl
+
+pub lent-given : (x limit : ℕ) (result : List ℕ) (kept given : ℕ) {k : ℕ} → k ≡ x → k ≡ 0 → length result ≤ limit → given ≡ lentBy (outcome x limit result) kept given
+lent-given x limit result kept given c z l = rw (← c, z, outcome-gives limit result l)
+
+pub settles-lent : {o : Outcome} {n m k r s : ℕ} (kept given : ℕ) (out work : List ℕ) {a b : List ℕ} → Responds o n out k × (s ≡ lentBy o kept given) → length out ≡ n
+    → length work ≡ m → left r a b ≡ settled k out work → leftLent s (left r a b) ≡ leavesLent o kept given n m
+settles-lent kept given out work (f, e) p q d = ap₂ leftLent e (settles out work f p q d)

@@ -1,4 +1,5 @@
 pub mod Writing
+pub mod Spanning
 pub mod Ranges
 pub mod Spelling
 pub mod Settling

@@ -60,6 +60,11 @@ writes-none limit n out count ws r = rw append-nil r
 pub writes-more : {limit n : ℕ} {a b c : List ℕ} {i j k : ℕ} (us vs : List ℕ) → Writes limit n a i b j us → Writes limit n b j c k vs → Writes limit n a i c k (us ++ vs)
 writes-more us vs f g ws r = rw (← append-assoc) (g (ws ++ us) (f ws r))
 
+-- the same, where the buffer between has its own length
+pub behind : {limit n : ℕ} {a b c : List ℕ} {i j r : ℕ} (us vs : List ℕ) → Writes limit n a i b j us → length b ≡ n
+    → Writes limit (length b) b j c r vs → Writes limit n a i c r (us ++ vs)
+behind us vs f e g = writes-more us vs f (rw e at g)
+
 -- a full buffer takes any
 pub writes-full : {limit n : ℕ} {a b : List ℕ} {i j : ℕ} (us vs : List ℕ) → limit < j → Writes limit n a i b j us → Writes limit n a i b j (us ++ vs)
 writes-full {limit} {n} us vs h f = writes-more us vs f (λ ws r. written-full limit n ws vs h r)

@@ -2,6 +2,7 @@ pub mod Tests
 pub mod Cases
 pub mod Sets
 pub mod Sums
+pub mod Spans
 pub mod Filter
 pub mod Lengths
 pub mod Perm

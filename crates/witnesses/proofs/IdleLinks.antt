@@ -9,7 +9,7 @@ use Prim.Native.Nat.{ℕ, _≤_, _<_}
 use native.Mathlib.Omega.{arith}
 use lib.Dec.{T, leb, leb→le, lit≤}
 use lib.ListN.{length, drop, length-map}
-use Rattle.sets.specs.Sets.{Mem, here, Perm, _⊆_, any, member, ascending}
+use Rattle.sets.specs.Sets.{Mem, here, span, Perm, _⊆_, any, member, ascending}
 use Rattle.sets.specs.Reach.{closure, Reach, seed, next}
 use Rattle.sets.proofs.Sets.{member-iff, ascending-iff, on-cons}
 use Rattle.sets.proofs.Tests.{implies-iff}
@@ -36,7 +36,7 @@ use Rattle.hub_calls.proofs.CallLists.{seeds, called-lists, calls-stray}
 use Rattle.hub_join.specs.Join.{joined, joinCall}
 use Rattle.old.specs.Old.{listed, oldSearchCall}
 use Rattle.cutter.specs.Cut.{cut, cutCall}
-use Rattle.dearest.specs.Dearest.{span, dearPart, dearPath}
+use Rattle.dearest.specs.Dearest.{dearPart, dearPath}
 use Rattle.demands.specs.Plant.{Closed, HasEdge, Holds, AcceptedPart, TrueCut, Unwalked, Fits, body}
 use Rattle.demands.specs.PlantOf.{plantOf, partsOf}
 use Rattle.demands.specs.Grouped.{ours, asks}

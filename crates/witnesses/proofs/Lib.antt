@@ -10,3 +10,4 @@ pub mod WaitingOperands
 pub mod CustomerGroups
 pub mod IdleLinks
 pub mod Growing
+pub mod Bench

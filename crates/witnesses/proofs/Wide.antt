@@ -9,7 +9,7 @@ use Prim.Native.Nat.{ℕ}
 use native.Mathlib.Omega.{arith}
 use lib.Dec.{T, eqb, eqb-refl, lit≤}
 use lib.ListN.{length, getD, length-append, length-map, length-drop}
-use Rattle.sets.specs.Sets.{Mem, here, there, _⊆_, Distinct, filter, any, perm-swap}
+use Rattle.sets.specs.Sets.{Mem, here, there, _⊆_, Distinct, span, filter, any, perm-swap}
 use Rattle.sets.specs.Reach.{closure}
 use Rattle.sets.proofs.Sets.{filter-iff, on-cons}
 use Rattle.sets.proofs.Tests.{not-iff}
@@ -26,7 +26,6 @@ use Rattle.walks.specs.Product.{stepIn, reached, answers}
 use Rattle.first_replies.specs.FirstReply.{reported, doorWords, firstReply}
 use Rattle.site_second.specs.Second.{secondReply}
 use Rattle.hub_calls.specs.CallList.{called, callList}
-use Rattle.dearest.specs.Dearest.{span}
 use Rattle.demands.specs.Plant.{HasEdge, Fits, body}
 use Rattle.demands.specs.Question.{Call, going, Answer}
 use Rattle.demands.specs.Demand.{Asked, Put, Right, question, Over, NoneOver, Claim}

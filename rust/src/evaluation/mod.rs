@@ -1,10 +1,11 @@
-//! Document 01 evaluated, with labels outside a range (request 1), groups that a call is handed (request 3), the length of a first reply
-//! before each door (request 4), links that nobody walks (request 5), stopped nodes (request 7), eight operands waiting at most (request 9),
-//! which parts no reply tells apart and which plants are grown (request 12), and the dearest part and path (request 13): every call as a
-//! function from bytes, numbers and buffer lengths to a refusal or the result's words. It is written from the documents alone, for plainness
-//! and not for speed, and shares no method with the library where they leave a choice.
+//! Document 01 evaluated, with labels outside a range (request 1), plants that are drawn (request 2), groups that a call is handed (request
+//! 3), the length of a first reply before each door (request 4), links that nobody walks (request 5), stopped nodes (request 7), eight
+//! operands waiting at most (request 9), which parts no reply tells apart and which plants are grown (request 12), and the dearest part and
+//! path (request 13): every call as a function from bytes, numbers and buffer lengths to a refusal or the result's words. It is written from
+//! the documents alone, for plainness and not for speed, and shares no method with the library where they leave a choice.
 
 pub mod dearest;
+pub mod generator;
 pub mod groups;
 pub mod hub;
 pub mod learning;
@@ -18,6 +19,7 @@ pub mod states;
 pub mod words;
 
 use self::dearest::{check_counts, dearest_files, Counts, Rooms};
+use self::generator::Source;
 use self::groups::read_groups;
 use self::hub::*;
 use self::part::*;
@@ -30,6 +32,9 @@ pub type Outcome = Result<Vec<u32>, Refusal>;
 
 /// That of a call with two results.
 pub type BothFiles = Result<[Vec<u32>; 2], Refusal>;
+
+/// That of a call that is lent a state: the result's words, and the state as it is given back. A refusal leaves the state as it was.
+pub type Generated = Result<(Vec<u32>, u32), Refusal>;
 
 /// The lengths of the lent buffers, in bytes.
 #[derive(Clone, Copy, PartialEq, Eq, Debug)]
@@ -129,4 +134,11 @@ pub fn dearest(counts: Counts, [part, path, work]: Rooms) -> BothFiles {
     input("path's buffers", check_room(Room { out: path, work }, PATH_LIMIT))?;
     input("counts", check_counts(counts))?;
     Ok(dearest_files(counts))
+}
+
+/// The plant that is drawn, and the state after the last draw.
+pub fn generate(source: &Source, room: Room) -> Generated {
+    check_room(room, FILE_LIMIT)?;
+    input("nodes and edges", source.check())?;
+    Ok((source.part().words(), source.moved()))
 }

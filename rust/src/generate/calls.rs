@@ -227,7 +227,11 @@ pub fn around(random: &mut Random, bound: usize) -> usize {
 
 /// Buffers for a call: mostly the least ones, else some around every bound.
 pub fn room(random: &mut Random, call: &Call) -> Room {
-    let least = call.least_room();
+    room_from(random, call.least_room())
+}
+
+/// The same by the least ones.
+pub fn room_from(random: &mut Random, least: Room) -> Room {
     match random.chance(80) {
         true => least,
         false => Room { out: around(random, least.out), work: around(random, least.work) },

@@ -6,7 +6,7 @@ use crate::generate::calls::around;
 use crate::random::Random;
 
 /// Any number of so many bits at most.
-fn number(random: &mut Random, bits: u32) -> u32 {
+pub fn number(random: &mut Random, bits: u32) -> u32 {
     let width = random.below(bits as usize + 1) as u32;
     random.word().checked_shr(32 - width).unwrap_or(0)
 }

@@ -1,4 +1,4 @@
-//! Random files, counts, whole questions and damage.
+//! Random files, counts, states, whole questions and damage.
 
 pub mod alike;
 pub mod bundle;
@@ -10,3 +10,4 @@ pub mod growth;
 pub mod path;
 pub mod plant;
 pub mod question;
+pub mod sources;

@@ -5,7 +5,10 @@ use Prim.Native.Nat.{_+_, _-_}
 use borrow.Author.Needs.{needs}
 use Rattle.files.specs.Field.{nodeWord, edgeWord}
 use Rattle.files.specs.Limits.{partWords}
-use Rattle.dearest.proofs.Spanning.{Spanning, spanning-first, targets-more, spanning-last, each, behind, door-is}
+use Rattle.sets.proofs.Spans.{each}
+use Rattle.output.proofs.Writing.{behind}
+use Rattle.output.proofs.Spanning.{Spanning, spanning-first, spanning-word, spanning-last}
+use Rattle.dearest.proofs.Writing.{door-is}
 use Rattle.dearest.proofs.part.write_door.Statement.{statement}
 use Rattle.dearest.proofs.part.write_door.Tie as tie
 
@@ -24,7 +27,7 @@ loop-again c =
     let put = c .before .before in
     let word = put .before in
     let test = word .before .before in
-    targets-more (test .before .loop .inv) (test .loop-test .taken) (word .edge-word .ensures) (search needs) (put .push2 .ensures)
+    spanning-word (edgeWord 0) (test .before .loop .inv) (test .loop-test .taken) (word .edge-word .ensures) (search needs) (put .push2 .ensures)
 
 returns : tie.Need-returns Inv-loop μ-loop
 returns c =

@@ -4,8 +4,8 @@ use Prim.Native.Nat.{_-_}
 use native.Mathlib.Omega.{arith}
 use borrow.Author.Needs.{needs}
 use Rattle.files.specs.Limits.{partWords}
+use Rattle.output.proofs.Spanning.{Spanning, spanning-first, spanning-more, spanning-last}
 use Rattle.dearest.specs.Dearest.{dearDoor}
-use Rattle.dearest.proofs.Spanning.{Spanning, spanning-first, spanning-more, spanning-last}
 use Rattle.dearest.proofs.part.write_doors.Statement.{statement}
 use Rattle.dearest.proofs.part.write_doors.Tie as tie
 

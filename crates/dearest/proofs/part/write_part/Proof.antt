@@ -2,7 +2,8 @@
 use mathlib.Core.List.{map, flatten}
 use borrow.Author.Needs.{needs}
 use Rattle.output.proofs.Frame.{filed}
-use Rattle.dearest.specs.Dearest.{span, dearDoor, dearPart}
+use Rattle.sets.specs.Sets.{span}
+use Rattle.dearest.specs.Dearest.{dearDoor, dearPart}
 use Rattle.dearest.proofs.part.write_part.Statement.{statement}
 use Rattle.dearest.proofs.part.write_part.Tie as tie
 

@@ -1,7 +1,7 @@
 -- `dearest::path::write_range` meets its contract. Assumes nothing.
 use native.Mathlib.Omega.{arith}
 use borrow.Author.Needs.{needs}
-use Rattle.dearest.proofs.Spanning.{range-alone, range-joined}
+use Rattle.dearest.proofs.Writing.{range-alone, range-joined}
 use Rattle.dearest.proofs.path.write_range.Statement.{statement}
 use Rattle.dearest.proofs.path.write_range.Tie as tie
 

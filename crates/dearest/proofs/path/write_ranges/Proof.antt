@@ -4,8 +4,11 @@ use Prim.Native.Nat.{_+_, _-_}
 use borrow.Author.Needs.{needs}
 use Rattle.files.specs.Path.{operatorWord}
 use Rattle.files.specs.Limits.{pathWords}
+use Rattle.sets.proofs.Spans.{each}
+use Rattle.output.proofs.Writing.{behind}
+use Rattle.output.proofs.Spanning.{Spanning, spanning-first, spanning-more, spanning-last}
 use Rattle.dearest.specs.Answer.{rangeOf}
-use Rattle.dearest.proofs.Spanning.{Spanning, spanning-first, spanning-more, spanning-last, each, behind, ranges-are}
+use Rattle.dearest.proofs.Writing.{ranges-are}
 use Rattle.dearest.proofs.path.write_ranges.Statement.{statement}
 use Rattle.dearest.proofs.path.write_ranges.Tie as tie
 

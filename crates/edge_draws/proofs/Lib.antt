@@ -1,0 +1,2 @@
+pub mod Inserting
+pub mod Gathering

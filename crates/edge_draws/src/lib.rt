@@ -1,0 +1,2 @@
+// The edges of a node, drawn: in order, equal ones once.
+pub mod edges;

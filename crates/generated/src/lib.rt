@@ -1,0 +1,1 @@
+// What is promised of the files of the load bench. Nothing runs here.
