@@ -1,7 +1,8 @@
-//! The library's eleven calls on what is asked.
+//! The library's thirteen calls on what is asked, and a visit's paths by single calls.
 use crate::calls;
 use crate::inputs::Ask;
-use crate::timing::{part_output, two_outputs};
+use crate::timing::{outputs, PART_BYTES, PATH_BYTES};
+use crate::visits::{four_outputs, singly};
 
 pub fn old_search(ask: &Ask, out: &mut [u8], work: &mut [u8]) -> u32 {
     calls::old_search(&ask.file, &ask.path, out, work)
@@ -23,6 +24,24 @@ pub fn first_reply_grouped(ask: &Ask, out: &mut [u8], work: &mut [u8]) -> u32 {
     calls::first_reply_grouped(&ask.file, &ask.groups, &ask.path, out, work)
 }
 
+pub fn four_replies(ask: &Ask, out: &mut [u8], work: &mut [u8]) -> u32 {
+    let [out1, out2, out3, out4] = four_outputs(out);
+    calls::four_replies(&ask.file, &ask.path, out1, out2, out3, out4, work)
+}
+
+pub fn four_replies_grouped(ask: &Ask, out: &mut [u8], work: &mut [u8]) -> u32 {
+    let [out1, out2, out3, out4] = four_outputs(out);
+    calls::four_replies_grouped(&ask.file, &ask.groups, &ask.path, out1, out2, out3, out4, work)
+}
+
+pub fn single_replies(ask: &Ask, out: &mut [u8], work: &mut [u8]) -> u32 {
+    singly(ask, out, |path, out| calls::first_reply(&ask.file, path, out, work))
+}
+
+pub fn single_replies_grouped(ask: &Ask, out: &mut [u8], work: &mut [u8]) -> u32 {
+    singly(ask, out, |path, out| calls::first_reply_grouped(&ask.file, &ask.groups, path, out, work))
+}
+
 pub fn call_list(ask: &Ask, out: &mut [u8], work: &mut [u8]) -> u32 {
     calls::call_list(&ask.file, out, work)
 }
@@ -40,13 +59,13 @@ pub fn join(ask: &Ask, out: &mut [u8], work: &mut [u8]) -> u32 {
 }
 
 pub fn dearest(ask: &Ask, out: &mut [u8], work: &mut [u8]) -> u32 {
-    let ([doors, targets, labels], [part, path]) = (ask.counts, two_outputs(out));
+    let ([doors, targets, labels], [part, path]) = (ask.counts, outputs(out, [PART_BYTES, PATH_BYTES]));
     calls::dearest(doors, targets, labels, part, path, work)
 }
 
 pub fn generate(ask: &Ask, out: &mut [u8], work: &mut [u8]) -> u32 {
-    let ([nodes, edges], mut state) = (ask.plant, ask.state.get());
-    let number = calls::generate(&mut state, nodes, edges, part_output(out), work);
+    let ([nodes, edges], mut state, [plant]) = (ask.plant, ask.state.get(), outputs(out, [PART_BYTES]));
+    let number = calls::generate(&mut state, nodes, edges, plant, work);
     ask.state.set(state);
     number
 }

@@ -1,4 +1,4 @@
-//! The eleven calls of the library beside plain Rust versions of the same algorithms, and beside better ones where such are known.
+//! The thirteen calls of the library beside plain Rust versions of the same algorithms, and beside better ones where such are known.
 mod best;
 #[path = "../rust/src/calls.rs"]
 mod calls;
@@ -8,17 +8,18 @@ mod library;
 mod plain;
 mod table;
 mod timing;
+mod visits;
 mod words;
 
-use table::{Call, BEST, BUNDLE, PART, PLANT, UNGROUPED};
+use table::{Call, BEST, BUNDLE, PART, PLAIN_SINGLE, PLANT, SINGLE, UNGROUPED};
 
-/// The third version of a grouped call is the call without groups, on the same input: its groups are ours.
+/// The last version of a grouped call is the call without groups, on the same input: its groups are ours.
 fn calls() -> Vec<Call> {
     use best as b;
     use library as l;
     use plain as p;
-    let call = |name, sizes, shapes, versions| Call { name, sizes, shapes, versions, last: BEST };
-    let grouped = |name, shape, versions| Call { name, sizes: PART, shapes: vec![shape], versions, last: UNGROUPED };
+    let call = |name, sizes, shapes, versions| Call { name, sizes, shapes, versions, columns: vec![BEST] };
+    let grouped = |name, shape, versions| Call { name, sizes: PART, shapes: vec![shape], versions, columns: vec![UNGROUPED] };
     let [old, first, second] = [inputs::old_search_of_groups(), inputs::first_reply_of_groups(), inputs::second_reply_of_groups()];
     vec![
         call("old search", PART, inputs::old_search(), vec![l::old_search, p::old_search, b::old_search]),
@@ -32,6 +33,27 @@ fn calls() -> Vec<Call> {
         grouped("old search, grouped", old, vec![l::old_search_grouped, p::old_search_grouped, l::old_search]),
         grouped("first reply, grouped", first, vec![l::first_reply_grouped, p::first_reply_grouped, l::first_reply]),
         grouped("second reply, grouped", second, vec![l::second_reply_grouped, p::second_reply_grouped, l::second_reply]),
+    ]
+}
+
+/// Beside a visit stand single calls for its paths.
+fn visits() -> Vec<Call> {
+    use library as l;
+    use plain as p;
+    let visit = |name, shapes, versions, columns| Call { name, sizes: PART, shapes, versions, columns };
+    vec![
+        visit(
+            "four replies",
+            inputs::four_replies(),
+            vec![l::four_replies, p::four_replies, l::single_replies, p::single_replies],
+            vec![SINGLE, PLAIN_SINGLE],
+        ),
+        visit(
+            "four replies, grouped",
+            vec![inputs::four_replies_of_groups()],
+            vec![l::four_replies_grouped, p::four_replies_grouped, l::single_replies_grouped, p::single_replies_grouped, l::four_replies],
+            vec![SINGLE, PLAIN_SINGLE, UNGROUPED],
+        ),
     ]
 }
 
@@ -54,6 +76,6 @@ fn main() {
     let words: Vec<String> = std::env::args().skip(1).collect();
     match words.first().map(String::as_str) {
         Some("search") => search(words.get(1).and_then(|w| w.parse().ok()).unwrap_or(5.0)),
-        _ => table::print(&calls()),
+        _ => table::print(&calls().into_iter().chain(visits()).collect::<Vec<Call>>()),
     }
 }

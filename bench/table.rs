@@ -6,9 +6,10 @@ pub struct Call {
     pub name: &'static str,
     pub sizes: Sizes,
     pub shapes: Vec<Shape>,
-    /// The library's, the plain one of the same algorithm and, where there is one, a third.
+    /// The library's, the plain one of the same algorithm and, where there are any, others.
     pub versions: Vec<Version>,
-    pub last: Last,
+    /// What is said of the others.
+    pub columns: Vec<Column>,
 }
 
 /// The sizes of the inputs, each twice the one before, and what they count.
@@ -18,17 +19,27 @@ pub const PART: Sizes = (&[512, 1024, 2048, 4096], "words");
 pub const BUNDLE: Sizes = (&[512, 1024, 2048, 4096, 8192], "words");
 pub const PLANT: Sizes = (&[16, 32, 64, 128, 256], "nodes");
 
-/// The last column: its title, and what it says of the third version.
-pub type Last = (&'static str, fn(&[Measured]) -> String);
+/// A column behind the ratios to plain: its title, and what stands there.
+pub type Column = (&'static str, fn(&[Measured]) -> String);
 
 /// A better algorithm, at the last size.
-pub const BEST: Last = ("times best known", |sizes| {
+pub const BEST: Column = ("times best known", |sizes| {
     let ratio = sizes[sizes.len() - 1].ratios.get(2);
     ratio.map_or("-".to_string(), |r| format!("{r:.1}"))
 });
 
-/// The library's call without groups, at all sizes. The least times are compared, as the ratio within a round hangs on which comes first.
-pub const UNGROUPED: Last = ("times without groups", |sizes| list(sizes.iter().map(|m| m.least[0] / m.least[2]), 2));
+/// The library's call without groups, which is the last version, at all sizes.
+pub const UNGROUPED: Column = ("times without groups", |sizes| by_least(sizes, 0, sizes[0].least.len() - 1));
+
+/// Single calls for the paths of a visit, the library's and the plain version's.
+pub const SINGLE: Column = ("times single calls", |sizes| by_least(sizes, 0, 2));
+pub const PLAIN_SINGLE: Column = ("times single calls, both plain", |sizes| by_least(sizes, 1, 3));
+
+/// The times of one version over another's that shares code with it. The least are compared, as the ratio within a round hangs on which comes
+/// first.
+fn by_least(sizes: &[Measured], over: usize, under: usize) -> String {
+    list(sizes.iter().map(|m| m.least[over] / m.least[under]), 2)
+}
 
 impl Call {
     fn measured(&self, shape: &Shape) -> Vec<Measured> {
@@ -47,11 +58,12 @@ fn times(sizes: &[Measured]) -> String {
     list(micros(), usize::from(micros().all(|time| time < 10.0)))
 }
 
-fn row(shape: &Shape, sizes: &[Measured], last: String) {
+fn row(shape: &Shape, sizes: &[Measured], columns: &[Column]) {
     let library = times(sizes);
     let growth = list(sizes.windows(2).map(|m| m[1].least[0] / m[0].least[0]), 1);
     let ratio = list(sizes.iter().map(|m| m.ratios[1]), 2);
-    println!("| {} | {library} | {growth} | {ratio} | {last} |", shape.name);
+    let more: String = columns.iter().map(|(_, cell)| format!(" {} |", cell(sizes))).collect();
+    println!("| {} | {library} | {growth} | {ratio} |{more}", shape.name);
 }
 
 /// What is said of a call at the end.
@@ -62,14 +74,18 @@ struct Worst {
 }
 
 fn table(call: &Call) -> Worst {
-    let ((sizes, unit), (title, last)) = (call.sizes, call.last);
+    let (sizes, unit) = call.sizes;
     let sizes = list(sizes.iter().map(|&n| n as f64), 0);
+    let more: String = call.columns.iter().map(|(title, _)| format!(" {title} |")).collect();
     println!("\n### {}\n", call.name);
-    println!("| input | us at {sizes} {unit} | growth per doubling | times plain | {title} |\n|---|---|---|---|---|");
+    println!(
+        "| input | us at {sizes} {unit} | growth per doubling | times plain |{more}\n|---|---|---|---|{}",
+        "---|".repeat(call.columns.len())
+    );
     let mut worst = Worst { ratio: 0.0, seconds: 0.0, shape: "" };
     for shape in &call.shapes {
         let sizes = call.measured(shape);
-        row(shape, &sizes, last(&sizes));
+        row(shape, &sizes, &call.columns);
         worst.ratio = sizes.iter().map(|m| m.ratios[1]).fold(worst.ratio, f64::max);
         let seconds = sizes[sizes.len() - 1].least[0];
         if seconds > worst.seconds {

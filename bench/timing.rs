@@ -29,6 +29,12 @@ pub fn now() -> f64 {
     time.seconds as f64 + time.nanoseconds as f64 * 1e-9
 }
 
+/// The bytes of an output, at least: for a part, a path, a reply, a final list.
+pub const PART_BYTES: usize = 16_384;
+pub const PATH_BYTES: usize = 256;
+pub const REPLY_BYTES: usize = 16_384;
+const LIST_BYTES: usize = 32_768;
+
 pub struct Buffers {
     out: Vec<u8>,
     work: Vec<u8>,
@@ -36,13 +42,19 @@ pub struct Buffers {
 
 impl Buffers {
     pub fn new() -> Buffers {
-        Buffers { out: vec![0x55; 32_768], work: vec![0x55; 32_768] }
+        Buffers { out: vec![0x55; 4 * REPLY_BYTES], work: vec![0x55; 32_768] }
+    }
+
+    /// A version is handed a final list's output, and for a visit four replies'. What is behind it stays as it is.
+    fn call(&mut self, version: Version, ask: &Ask) -> u32 {
+        let length = if ask.paths.is_empty() { LIST_BYTES } else { 4 * REPLY_BYTES };
+        version(ask, &mut self.out[..length], &mut self.work)
     }
 
     /// The seconds of one call, and its number.
     pub fn once(&mut self, version: Version, ask: &Ask) -> (f64, u32) {
         let start = now();
-        let number = version(ask, &mut self.out, &mut self.work);
+        let number = self.call(version, ask);
         (now() - start, number)
     }
 
@@ -50,22 +62,19 @@ impl Buffers {
     fn repeated(&mut self, version: Version, ask: &Ask, count: usize) -> f64 {
         let start = now();
         for _ in 0..count {
-            version(ask, &mut self.out, &mut self.work);
+            self.call(version, ask);
         }
         (now() - start) / count as f64
     }
 }
 
-/// The output that versions are handed as two of the least lengths, a part's and a path's. What is behind these stays as it is.
-pub fn two_outputs(out: &mut [u8]) -> [&mut [u8]; 2] {
-    let (part, rest) = out.split_at_mut(16_384);
-    [part, &mut rest[..256]]
-}
-
-/// The first of them alone.
-pub fn part_output(out: &mut [u8]) -> &mut [u8] {
-    let [part, _] = two_outputs(out);
-    part
+/// Outputs of these lengths, one after another, of the one that a version is handed. What is behind them stays as it is.
+pub fn outputs<const N: usize>(mut out: &mut [u8], lengths: [usize; N]) -> [&mut [u8]; N] {
+    lengths.map(|length| {
+        let (first, rest) = std::mem::take(&mut out).split_at_mut(length);
+        out = rest;
+        first
+    })
 }
 
 /// The seconds of each version of a call in each round.
@@ -92,16 +101,26 @@ impl Rounds {
     }
 }
 
+/// How many bytes of output a version must leave as the first does. The first two are the call itself, and owe all that they are handed; what
+/// stands beside a visit owes an output for each path, as single calls know of no other.
+fn owed(version: usize, ask: &Ask) -> usize {
+    if version < 2 || ask.paths.is_empty() {
+        4 * REPLY_BYTES
+    } else {
+        ask.paths.len() * REPLY_BYTES
+    }
+}
+
 /// All versions must leave the number that is due, the same bytes and the same state, which each is lent anew. Gives the seconds of each.
 fn compare(versions: &[Version], ask: &Ask, name: &str) -> Vec<f64> {
     let (mut first, asked) = (Buffers::new(), ask.clone());
     let (time, number) = first.once(versions[0], &asked);
     assert_eq!(number, ask.number, "{name}");
     let mut times = vec![time];
-    for &version in &versions[1..] {
-        let (mut other, again) = (Buffers::new(), ask.clone());
+    for (v, &version) in versions.iter().enumerate().skip(1) {
+        let (mut other, again, owed) = (Buffers::new(), ask.clone(), owed(v, ask));
         let (time, number) = other.once(version, &again);
-        let same = other.out == first.out && other.work == first.work && again.state == asked.state;
+        let same = other.out[..owed] == first.out[..owed] && other.work == first.work && again.state == asked.state;
         assert!(number == ask.number && same, "{name}: two versions differ");
         times.push(time);
     }

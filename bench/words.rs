@@ -13,6 +13,7 @@ pub const STOPPED: u32 = 1 << 18;
 /// The root bit of a door word.
 pub const ROOT_DOOR: u32 = 1 << 16;
 
+pub const EMPTY: u32 = 6 << 28;
 pub const THEN: u32 = 6 << 28 | 1;
 pub const OR: u32 = 6 << 28 | 2;
 pub const STAR: u32 = 6 << 28 | 3;

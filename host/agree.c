@@ -57,13 +57,16 @@ static void parse(struct sample *s, enum subject subject, const char *text)
 #define IDLE_1 "7130000a 80000002 90000000 a0000631 90000001 a0000032 90000002 a0000633 90000003 a0000032"
 #define WALKED_1 "71300008 80000002 90000001 a0000032 a0000632 90000003 a0000032 a0000632"
 #define STRAY "70000004 80010001 90000000 a0000020"
+#define EMPTY "40000002 60000000"
+/* The result of a visit that is refused with 17 as a whole. */
+#define NO_SPLIT 0x11111111
 
 /* Document 01's table and end-to-end files, then rows of docs/DECISIONS.md on which readings differ, then stopped nodes, then labels outside a
    range, then groups: ours, a press maker's, and wrong ones; then reach words to no door, in rows that nobody follows and in others, and what comes
-   ahead of 14. */
+   ahead of 14; then bundles of paths, with the number of each path in a byte of the result. */
 static const struct example {
     enum subject subject;
-    uint32_t number;
+    uint32_t result;
     const char *text;
 } examples[] = {
     {AS_PART, 3, "10100001"},
@@ -147,10 +150,20 @@ static const struct example {
     {AS_FIRSTS, 12, STRAY "; 70000001"},
     {AS_FIRSTS, 7, STRAY "; 71000002 80010003"},
     {AS_FIRSTS, 13, STRAY "; 71000002 80000001"},
+    {AS_PATHS, 0, P},
+    {AS_PATHS, 0, P "; " EMPTY "; " BUT "; " GROUPED},
+    {AS_PATHS, 0x00030900, P "; 40000002 60000003; 10000001; " EMPTY},
+    {AS_PATHS, 0x05000003, "40004002 60000000; " P "; " P "; 40100002 53001001"},
+    {AS_PATHS, 0x00000309, "40300006 50005005 50006006 50005005 60000001 60000003; 60000001"},
+    {AS_PATHS, NO_SPLIT, ""},
+    {AS_PATHS, NO_SPLIT, "40000000"},
+    {AS_PATHS, NO_SPLIT, P "; 40000003 60000000"},
+    {AS_PATHS, NO_SPLIT, P "; 40000000 60000000; " P},
+    {AS_PATHS, NO_SPLIT, EMPTY "; " EMPTY "; " EMPTY "; " EMPTY "; " EMPTY},
 };
 
-/* Files that the damaged ones are made of, with and without stopped nodes, labels outside a range, groups and reach words to no door, and a path in
-   which as many operands wait as may. */
+/* Files that the damaged ones are made of, with and without stopped nodes, labels outside a range, groups and reach words to no door, a path in
+   which as many operands wait as may, and bundles of paths, one of them full. */
 static const struct example seeds[] = {
     {AS_PART, 0, "10000005 20030001 30050002 20010003 30050002"},
     {AS_PART, 0, "1a000009 20040000 30000000 30000001 3fff0000 20070007 37ff0007 3800ffff 2005ffff"},
@@ -174,6 +187,8 @@ static const struct example seeds[] = {
     {AS_GROUPS, 0, OURS "; " P},
     {AS_GROUPS, 0, MAKERS "; 40200006 51000007 60000000 60000002 50fff000 60000001"},
     {AS_ASKED, 0, STOPPED_DOOR "; " MAKERS "; " GROUPED "; " CALL_WORDS},
+    {AS_PATHS, 0, P "; " EMPTY "; 40100002 52005005"},
+    {AS_PATHS, 0, "40100003 51000007 60000003; " EMPTY "; " BUT "; 40200004 50005005 51000003 60000002"},
 };
 
 static void copy(struct sample *to, const struct sample *from)
@@ -306,6 +321,9 @@ static void test_sizes(void)
         {AS_CALLS, 0xb0f00000, 0xc0000000, 1, MOWQACHI_CALLS_WORDS},
         {AS_SECONDS, 0xd0000000, 0xe0000000, 1, MOWQACHI_REPLY_WORDS},
         {AS_FIRSTS, 0x70000000, 0x80000000, 1, MOWQACHI_REPLY_WORDS},
+        {AS_PATHS, 0x40000000, 0x60000000, 0, MOWQACHI_WAITING + 1},
+        {AS_PATHS, 0x40000000, 0x60000000, 0, MOWQACHI_PATH_WORDS},
+        {AS_PATHS, 0x40000000, 0x60000000, 0, MOWQACHI_BUNDLE_WORDS},
     };
     for (size_t k = 0; k < sizeof files / sizeof *files; k++)
         for (size_t count = files[k].limit - 1; count <= files[k].limit + 2; count++) {
@@ -469,7 +487,8 @@ static struct span bytes_of(const struct file *f, uint8_t *bytes)
     return (struct span){bytes, 4 * f->count};
 }
 
-/* Inputs of the calls with groups, right ones and wrong ones with their numbers; the last call list is wrong beside the path. */
+/* Inputs of the calls with groups, right ones and wrong ones with their numbers; the last call list is wrong beside the path, and a bundle of paths
+   is wrong as a whole. */
 static const struct choice {
     uint32_t number;
     const char *text;
@@ -477,7 +496,8 @@ static const struct choice {
   some_parts[] = {{0, STOPPED_DOOR}, {2, ""}, {5, "10000002 30050002"}, {7, "10000002 20060001"}},
   some_groups[] = {{0, MAKERS}, {16, ""}, {16, P}, {16, "50fff000 503ff000 500ff000 505ff400 506ff600 507ff700 50bff800 51000007"}},
   some_paths[] = {{0, GROUPED}, {2, ""}, {5, "40100002 51000008"}, {9, "40000002 60000003"}},
-  some_lists[] = {{0, CALL_WORDS}, {3, P}, {10, "b0000002 c0000011"}, {12, "b0000001"}};
+  some_lists[] = {{0, CALL_WORDS}, {3, P}, {10, "b0000002 c0000011"}, {12, "b0000001"}},
+  some_bundles[] = {{0, P " " GROUPED}, {17, ""}, {17, P " 40000000"}, {17, EMPTY " " EMPTY " " EMPTY " " EMPTY " " EMPTY}};
 
 /* A call on all choices of its inputs: the first that is wrong gives the number. */
 static void test_order(enum call name, const struct choice *const *inputs, int count)
@@ -494,7 +514,7 @@ static void test_order(enum call name, const struct choice *const *inputs, int c
             asked.in[k] = bytes_of(&s.file[0], bytes[k]);
             number = chosen->number != 0 ? chosen->number : number;
         }
-        must_be(call_names[name], number, call(&asked, &found));
+        must_be(call_names[name], number_for_all(name, number), call(&asked, &found));
     }
 }
 
@@ -502,9 +522,12 @@ static void test_orders(void)
 {
     static const struct choice *const old[] = {some_wholes, some_groups, some_paths};
     static const struct choice *const site[] = {some_parts, some_groups, some_paths, some_lists};
+    static const struct choice *const visit[] = {some_parts, some_groups, some_bundles}, *const ungrouped[] = {some_parts, some_bundles};
     test_order(OLD_SEARCH_GROUPED, old, 3);
     test_order(FIRST_REPLY_GROUPED, site, 3);
     test_order(SECOND_REPLY_GROUPED, site, 4);
+    test_order(FOUR_REPLIES_GROUPED, visit, 3);
+    test_order(FOUR_REPLIES, ungrouped, 2);
 }
 
 /* A call that takes three numbers alone. */
@@ -515,20 +538,29 @@ static void test_counts(enum call name, uint32_t first, uint32_t second, uint32_
     must_be(call_names[name], number, call(&asked, &found));
 }
 
-/* Row 15: two doors, so many targets each, the star of an or of 15 full ranges; then with groups too. */
+/* A call for first replies, and the one with groups: its result, and the words in one of its outputs. */
+static void test_long_reply(const struct asked *plain, uint32_t result, int output, size_t words)
+{
+    const struct asked calls[] = {*plain, with_groups(plain, our_groups)};
+    struct span found;
+    for (int k = 0; k < 2; k++) {
+        must_be("result of the dear reply", result, call(&calls[k], &found));
+        must_be("words of the dear reply", words, words_of(result_of(output)));
+    }
+}
+
+/* Row 15: two doors, so many targets each, the star of an or of 15 full ranges, by itself and as the second path of a visit. */
 static void test_dear_reply(uint32_t targets, uint32_t number, size_t words)
 {
-    struct draft part = {.len = 0}, path = {.len = 0};
-    struct span found;
+    static const uint8_t empty[] = {2, 0, 0, 0x40, 0, 0, 0, 0x60};
+    struct draft part = {.len = 0}, path = {.len = 0}, two = {.len = 0};
     test_counts(DEAREST, 2, targets, MOWQACHI_PATH_LABELS, 0);
     put_bytes(&part, result_of(0));
     put_bytes(&path, result_of(1));
-    struct asked asked = {FIRST_REPLY, {span_of(&part), span_of(&path)}, {0}};
-    must_be("number of the dear reply", number, call(&asked, &found));
-    must_be("words of the dear reply", words, words_of(found));
-    asked = with_groups(&asked, our_groups);
-    must_be("number of the dear reply, with groups", number, call(&asked, &found));
-    must_be("words of the dear reply, with groups", words, words_of(found));
+    put_bytes(&two, (struct span){empty, sizeof empty});
+    put_bytes(&two, span_of(&path));
+    test_long_reply(&(struct asked){FIRST_REPLY, {span_of(&part), span_of(&path)}, {0}}, number, 0, words);
+    test_long_reply(&(struct asked){FOUR_REPLIES, {span_of(&part), span_of(&two)}, {0}}, number << 8, 1, words);
 }
 
 /* A root's row that reaches 255 doors in all states, and one node on from there in so many: 4,081 pairs and those. That node is a door, or not. */
@@ -563,33 +595,41 @@ static void test_room(const struct asked *asked)
 {
     const struct asked none = {asked->call, {{NULL, 0}}, {99}};
     const struct room least = room_for(asked->call);
+    const uint32_t refused = number_for_all(asked->call, MOWQACHI_BUFFER);
+    struct room more = {{least.out[0] + 1234567}, least.work + 3}, shorter = least;
     must_be("number at just enough", 0, call_with(asked, least));
-    must_be("number with more", 0, call_with(asked, (struct room){{least.out[0] + 1234567, least.out[1] + 7}, least.work + 3}));
+    for (int k = 1; k < OUTPUTS; k++)
+        more.out[k] = least.out[k] + 7;
+    must_be("number with more", 0, call_with(asked, more));
     for (int k = 0; k < OUTPUTS && least.out[k] > 0; k++) {
         struct room room = least;
         room.out[k]--;
-        must_be("number of a short output", 1, call_with(asked, room));
-        must_be("number of a short output and no inputs", 1, call_with(&none, room));
+        must_be("number of a short output", refused, call_with(asked, room));
+        must_be("number of a short output and no inputs", refused, call_with(&none, room));
     }
-    must_be("number of a short working buffer", 1, call_with(asked, (struct room){{least.out[0], least.out[1]}, least.work - 1}));
-    must_be("number of no buffers and inputs", 1, call_with(&none, (struct room){{0}, 0}));
+    shorter.work--;
+    must_be("number of a short working buffer", refused, call_with(asked, shorter));
+    must_be("number of no buffers and inputs", refused, call_with(&none, (struct room){{0}, 0}));
 }
 
 static void test_buffers(void)
 {
-    static uint8_t bytes[6][4 * 64];
-    static const char *const texts[6] = {W, P, "10000003 20010002 30060003", FIRST_0 " " FIRST_1, CALL_WORDS, "d0300001 d1300002 e0000002"};
+    static const char *const texts[] = {W, P, "10000003 20010002 30060003", FIRST_0 " " FIRST_1, CALL_WORDS, "d0300001 d1300002 e0000002",
+                                        P " " EMPTY " " BUT " " GROUPED};
+    enum { TEXTS = sizeof texts / sizeof *texts };
     static const uint8_t cuts[] = {0, 1, 0};
+    static uint8_t bytes[TEXTS][4 * 64];
     static struct sample s;
-    struct span f[6], cut = {cuts, sizeof cuts};
-    for (int k = 0; k < 6; k++) {
+    struct span f[TEXTS], cut = {cuts, sizeof cuts};
+    for (int k = 0; k < TEXTS; k++) {
         parse(&s, AS_PART, texts[k]);
         f[k] = bytes_of(&s.file[0], bytes[k]);
     }
     const struct asked asked[] = {{OLD_SEARCH, {f[0], f[1]}, {0}}, {CUT, {f[0], cut}, {1}}, {FIRST_REPLY, {f[2], f[1]}, {0}},
                                   {CALL_LIST, {f[3]}, {0}}, {SECOND_REPLY, {f[2], f[1], f[4]}, {0}}, {JOIN, {f[5]}, {0}},
                                   {OLD_SEARCH_GROUPED, {f[0], our_groups, f[1]}, {0}}, {FIRST_REPLY_GROUPED, {f[2], our_groups, f[1]}, {0}},
-                                  {SECOND_REPLY_GROUPED, {f[2], our_groups, f[1], f[4]}, {0}}, {DEAREST, {{NULL, 0}}, {2, 3, 4}},
+                                  {SECOND_REPLY_GROUPED, {f[2], our_groups, f[1], f[4]}, {0}}, {FOUR_REPLIES, {f[2], f[6]}, {0}},
+                                  {FOUR_REPLIES_GROUPED, {f[2], our_groups, f[6]}, {0}}, {DEAREST, {{NULL, 0}}, {2, 3, 4}},
                                   {GENERATE, {{NULL, 0}}, {7, 3, 4}}};
     for (int c = 0; c < CALL_COUNT; c++)
         test_room(&asked[c]);
@@ -615,7 +655,7 @@ int main(int argc, char **argv)
         write_into(argv[2]);
     for (size_t i = 0; i < sizeof examples / sizeof *examples; i++) {
         parse(&s, examples[i].subject, examples[i].text);
-        expect(&s, examples[i].number);
+        expect(&s, examples[i].result);
     }
     test_sizes();
     test_bundles();

@@ -4,15 +4,18 @@
 
 #include "drafts.h"
 
-/* The buffers, the last of them the working buffer; then the lent state between two words. */
-enum { WORK = OUTPUTS, STATE, PLACES, MOST_APART = 9, STRETCH = 65536, WORD = sizeof(uint32_t) };
+/* The inputs; the buffers, the last of them the working buffer; then the lent state between two words. */
+enum { OUT = INPUTS, WORK = OUT + OUTPUTS, STATE, PLACES, MOST_APART = 9, STRETCH = 1 << 18, WORD = sizeof(uint32_t) };
 
 /* Where each begins, and how many bytes there are in all. The state's words are aligned. */
-static size_t lay_out(const struct room *room, size_t *starts)
+static size_t lay_out(const struct asked *asked, const struct room *room, size_t *starts)
 {
-    const size_t lens[PLACES] = {room->out[0], room->out[1], room->work, 3 * WORD};
+    size_t lens[PLACES] = {[WORK] = room->work, [STATE] = 3 * WORD}, end = 0;
     uint32_t order[PLACES];
-    size_t end = 0;
+    for (int k = 0; k < INPUTS; k++)
+        lens[k] = asked->in[k].len;
+    for (int k = 0; k < OUTPUTS; k++)
+        lens[OUT + k] = room->out[k];
     draw_order(order, PLACES);
     for (int k = 0; k < PLACES; k++) {
         end += 1 + draw(MOST_APART);
@@ -24,7 +27,7 @@ static size_t lay_out(const struct room *room, size_t *starts)
     return end + MOST_APART;
 }
 
-/* What everything holds before a call: no zeros. */
+/* What everything but the inputs holds before a call: no zeros. */
 static const uint8_t *used_bytes(void)
 {
     static uint8_t used[STRETCH];
@@ -33,14 +36,26 @@ static const uint8_t *used_bytes(void)
     return used;
 }
 
+/* The call with its inputs among these bytes. */
+static struct asked put_inputs(uint8_t *bytes, const size_t *starts, const struct asked *asked)
+{
+    struct asked put = *asked;
+    for (int k = 0; k < INPUTS; k++) {
+        put.in[k].bytes = bytes + starts[k];
+        if (asked->in[k].len > 0)
+            memcpy(bytes + starts[k], asked->in[k].bytes, asked->in[k].len);
+    }
+    return put;
+}
+
 /* What the buffers hold after it. */
 static void expect(uint8_t *bytes, const struct room *room, const size_t *starts, const struct due *due)
 {
     memset(bytes + starts[WORK], 0, room->work);
     for (int k = 0; k < OUTPUTS; k++) {
-        memset(bytes + starts[k], 0, room->out[k]);
-        if (due->number == 0 && due->files[k].len > 0)
-            memcpy(bytes + starts[k], due->files[k].bytes, due->files[k].len);
+        memset(bytes + starts[OUT + k], 0, room->out[k]);
+        if (due->files[k].len > 0)
+            memcpy(bytes + starts[OUT + k], due->files[k].bytes, due->files[k].len);
     }
 }
 
@@ -48,16 +63,19 @@ const char *check_among(const struct asked *asked, struct room room, const struc
 {
     static uint32_t stretch[STRETCH / WORD], expected[STRETCH / WORD];
     uint8_t *bytes = (uint8_t *)stretch;
-    size_t starts[PLACES], end = lay_out(&room, starts), state = starts[STATE] / WORD + 1;
+    size_t starts[PLACES], end = lay_out(asked, &room, starts), state = starts[STATE] / WORD + 1;
     memcpy(stretch, used_bytes(), end);
-    memcpy(expected, used_bytes(), end);
+    struct asked among = put_inputs(bytes, starts, asked);
+    memcpy(expected, stretch, end);
     expect((uint8_t *)expected, &room, starts, due);
     if (takes_state(asked->call)) {
         stretch[state] = asked->values[0];
         expected[state] = due->state;
     }
-    struct buffers buffers = {{bytes + starts[0], bytes + starts[1]}, bytes + starts[WORK], room, &stretch[state]};
-    if (invoke(asked, &buffers) != due->number)
+    struct buffers buffers = {.work = bytes + starts[WORK], .room = room, .state = &stretch[state]};
+    for (int k = 0; k < OUTPUTS; k++)
+        buffers.out[k] = bytes + starts[OUT + k];
+    if (invoke(&among, &buffers) != due->result)
         return "another number";
     if (stretch[state] != expected[state])
         return "another state";

@@ -6,8 +6,9 @@
 
 #include "drafts.h"
 
-const char *const call_names[CALL_COUNT] = {"old_search", "cut", "first_reply", "call_list", "second_reply", "join",
-                                            "old_search_grouped", "first_reply_grouped", "second_reply_grouped", "dearest", "generate"};
+const char *const call_names[CALL_COUNT] = {
+    "old_search", "cut", "first_reply", "call_list", "second_reply", "join", "old_search_grouped", "first_reply_grouped", "second_reply_grouped",
+    "four_replies", "four_replies_grouped", "dearest", "generate"};
 const struct span our_groups = {(const uint8_t *)mowqachi_our_groups, sizeof mowqachi_our_groups};
 
 static unsigned given[CALL_COUNT];
@@ -17,16 +18,24 @@ static uint32_t left;
 struct room room_for(enum call call)
 {
     static const size_t bytes[CALL_COUNT][OUTPUTS] = {
-        {MOWQACHI_LIST_BYTES}, {MOWQACHI_PART_BYTES}, {MOWQACHI_REPLY_BYTES}, {MOWQACHI_CALLS_BYTES}, {MOWQACHI_REPLY_BYTES},
-        {MOWQACHI_LIST_BYTES}, {MOWQACHI_LIST_BYTES}, {MOWQACHI_REPLY_BYTES}, {MOWQACHI_REPLY_BYTES}, {MOWQACHI_PART_BYTES, MOWQACHI_PATH_BYTES},
-        {MOWQACHI_PART_BYTES}};
-    return (struct room){{bytes[call][0], bytes[call][1]}, MOWQACHI_WORK_BYTES};
+        [OLD_SEARCH] = {MOWQACHI_LIST_BYTES}, [OLD_SEARCH_GROUPED] = {MOWQACHI_LIST_BYTES}, [JOIN] = {MOWQACHI_LIST_BYTES},
+        [CUT] = {MOWQACHI_PART_BYTES}, [GENERATE] = {MOWQACHI_PART_BYTES}, [DEAREST] = {MOWQACHI_PART_BYTES, MOWQACHI_PATH_BYTES},
+        [FIRST_REPLY] = {MOWQACHI_REPLY_BYTES}, [FIRST_REPLY_GROUPED] = {MOWQACHI_REPLY_BYTES}, [CALL_LIST] = {MOWQACHI_CALLS_BYTES},
+        [SECOND_REPLY] = {MOWQACHI_REPLY_BYTES}, [SECOND_REPLY_GROUPED] = {MOWQACHI_REPLY_BYTES},
+        [FOUR_REPLIES] = {MOWQACHI_REPLY_BYTES, MOWQACHI_REPLY_BYTES, MOWQACHI_REPLY_BYTES, MOWQACHI_REPLY_BYTES},
+        [FOUR_REPLIES_GROUPED] = {MOWQACHI_REPLY_BYTES, MOWQACHI_REPLY_BYTES, MOWQACHI_REPLY_BYTES, MOWQACHI_REPLY_BYTES}};
+    struct room room = {.work = MOWQACHI_WORK_BYTES};
+    memcpy(room.out, bytes[call], sizeof room.out);
+    return room;
 }
 
 bool too_short(enum call call, const struct room *room)
 {
     struct room least = room_for(call);
-    return room->out[0] < least.out[0] || room->out[1] < least.out[1] || room->work < least.work;
+    bool found = room->work < least.work;
+    for (int k = 0; k < OUTPUTS; k++)
+        found = found || room->out[k] < least.out[k];
+    return found;
 }
 
 struct room draw_room(enum call call)
@@ -60,6 +69,7 @@ static enum call grouped(enum call call)
     case OLD_SEARCH: return OLD_SEARCH_GROUPED;
     case FIRST_REPLY: return FIRST_REPLY_GROUPED;
     case SECOND_REPLY: return SECOND_REPLY_GROUPED;
+    case FOUR_REPLIES: return FOUR_REPLIES_GROUPED;
     default: return call;
     }
 }
@@ -79,12 +89,32 @@ struct asked with_groups(const struct asked *a, struct span groups)
     return (struct asked){grouped(a->call), {a->in[0], groups, a->in[1], a->in[2]}, {a->values[0]}};
 }
 
+bool is_visit(enum call call)
+{
+    return call == FOUR_REPLIES || call == FOUR_REPLIES_GROUPED;
+}
+
+struct span paths_of(const struct asked *a)
+{
+    return a->in[a->call == FOUR_REPLIES ? 1 : 2];
+}
+
+uint32_t number_for(enum call call, uint32_t result, int output)
+{
+    return is_visit(call) ? mowqachi_number_at(result, (unsigned)output) : result;
+}
+
+uint32_t number_for_all(enum call call, uint32_t number)
+{
+    return is_visit(call) ? number * 0x01010101u : number;
+}
+
 uint32_t invoke(const struct asked *a, const struct buffers *b)
 {
     const struct span *x = &a->in[0], *y = &a->in[1], *z = &a->in[2], *t = &a->in[3];
     const uint32_t *v = a->values;
-    uint8_t *out = b->out[0], *work = b->work;
-    size_t out_len = b->room.out[0], work_len = b->room.work;
+    uint8_t *const *o = b->out, *out = b->out[0], *work = b->work;
+    const size_t *l = b->room.out, out_len = b->room.out[0], work_len = b->room.work;
     switch (a->call) {
     case OLD_SEARCH: return mowqachi_old_search(x->bytes, x->len, y->bytes, y->len, out, out_len, work, work_len);
     case CUT: return mowqachi_cut(x->bytes, x->len, y->bytes, y->len, v[0], out, out_len, work, work_len);
@@ -99,7 +129,12 @@ uint32_t invoke(const struct asked *a, const struct buffers *b)
         return mowqachi_first_reply_grouped(x->bytes, x->len, y->bytes, y->len, z->bytes, z->len, out, out_len, work, work_len);
     case SECOND_REPLY_GROUPED:
         return mowqachi_second_reply_grouped(x->bytes, x->len, y->bytes, y->len, z->bytes, z->len, t->bytes, t->len, out, out_len, work, work_len);
-    case DEAREST: return mowqachi_dearest(v[0], v[1], v[2], out, out_len, b->out[1], b->room.out[1], work, work_len);
+    case FOUR_REPLIES:
+        return mowqachi_four_replies(x->bytes, x->len, y->bytes, y->len, o[0], l[0], o[1], l[1], o[2], l[2], o[3], l[3], work, work_len);
+    case FOUR_REPLIES_GROUPED:
+        return mowqachi_four_replies_grouped(x->bytes, x->len, y->bytes, y->len, z->bytes, z->len,
+                                             o[0], l[0], o[1], l[1], o[2], l[2], o[3], l[3], work, work_len);
+    case DEAREST: return mowqachi_dearest(v[0], v[1], v[2], o[0], l[0], o[1], l[1], work, work_len);
     default: return mowqachi_generate(b->state, v[1], v[2], out, out_len, work, work_len);
     }
 }
@@ -151,10 +186,28 @@ static bool zero_from(const uint8_t *bytes, size_t from, size_t len)
     return from >= len || (bytes[from] == 0 && memcmp(bytes + from, bytes + from + 1, len - from - 1) == 0);
 }
 
-/* Whether an output that must have `least` bytes holds what is due after this number: a file, which is kept, and zeros, or zeros alone. */
-static bool keep_result(struct draft *result, uint32_t number, const uint8_t *out, size_t len, size_t least)
+/* Whether an output gets a file where nothing is refused: that of a visit does if there is a path for it. */
+static bool has_file(const struct asked *a, int output)
 {
-    if (number != 0)
+    return !is_visit(a->call) || file_in(paths_of(a), (size_t)output).len > 0;
+}
+
+/* Whether the numbers of a result are such that there are, and past the last path of a visit 0, unless the whole is refused. */
+static bool right_numbers(const struct asked *a, uint32_t result)
+{
+    bool right = true;
+    for (int k = 0; k < OUTPUTS; k++) {
+        uint32_t number = number_for(a->call, result, k);
+        bool known = number <= MOWQACHI_PATHS || number == MOWQACHI_COUNTS;
+        right = right && known && (number == 0 || has_file(a, k) || result == number_for_all(a->call, number));
+    }
+    return right;
+}
+
+/* Whether an output that must have `least` bytes holds a file, which is kept, and zeros; or where none is due zeros alone. */
+static bool keep_result(struct draft *result, bool due, const uint8_t *out, size_t len, size_t least)
+{
+    if (!due)
         return zero_from(out, 0, len);
     size_t kept = mowqachi_file_bytes(out);
     if (kept < 4 || kept > least || !zero_from(out, kept, len))
@@ -163,18 +216,19 @@ static bool keep_result(struct draft *result, uint32_t number, const uint8_t *ou
     return true;
 }
 
-static void check_left(const struct asked *a, uint32_t number, const struct buffers *b)
+static void check_left(const struct asked *a, uint32_t result, const struct buffers *b)
 {
     struct room least = room_for(a->call);
     bool moved = takes_state(a->call) && *b->state != a->values[0];
-    bool right = (number <= MOWQACHI_GROUPS || number == MOWQACHI_COUNTS) && zero_from(b->work, 0, b->room.work) && (number == 0 || !moved);
+    bool right = right_numbers(a, result) && zero_from(b->work, 0, b->room.work) && (result == 0 || !moved);
     for (int k = 0; k < OUTPUTS; k++) {
+        bool due = number_for(a->call, result, k) == 0 && has_file(a, k);
         results[k].len = 0;
         if (least.out[k] > 0)
-            right = keep_result(&results[k], number, b->out[k], b->room.out[k], least.out[k]) && right;
+            right = keep_result(&results[k], due, b->out[k], b->room.out[k], least.out[k]) && right;
     }
     if (!right) {
-        printf("%s: wrong number, buffers or state after %u\n", call_names[a->call], (unsigned)number);
+        printf("%s: wrong numbers, buffers or state after 0x%x\n", call_names[a->call], (unsigned)result);
         exit(1);
     }
 }
@@ -182,37 +236,45 @@ static void check_left(const struct asked *a, uint32_t number, const struct buff
 uint32_t call_with(const struct asked *a, struct room room)
 {
     struct asked lent = *a;
+    struct buffers b = {.work = lend(room.work, 0x5a), .room = room, .state = lend_state(a)};
     for (int k = 0; k < INPUTS; k++)
         lent.in[k] = lend_copy(a->in[k]);
-    struct buffers b = {{lend(room.out[0], 0xa5), lend(room.out[1], 0xa5)}, lend(room.work, 0x5a), room, lend_state(a)};
-    uint32_t number = invoke(&lent, &b);
-    check_left(a, number, &b);
-    given[a->call] |= 1u << number;
+    for (int k = 0; k < OUTPUTS; k++)
+        b.out[k] = lend(room.out[k], 0xa5);
+    uint32_t result = invoke(&lent, &b);
+    check_left(a, result, &b);
     for (int k = 0; k < INPUTS; k++) {
         if (a->in[k].len > 0 && memcmp(lent.in[k].bytes, a->in[k].bytes, a->in[k].len) != 0)
             abort();
         give_back(lent.in[k].bytes);
     }
-    for (int k = 0; k < OUTPUTS; k++)
+    for (int k = 0; k < OUTPUTS; k++) {
+        given[a->call] |= 1u << number_for(a->call, result, k);
         give_back(b.out[k]);
+    }
     give_back(b.work);
     take_state(b.state);
-    return number;
+    return result;
 }
 
 uint32_t call(const struct asked *a, struct span *found)
 {
-    uint32_t number = call_with(a, room_for(a->call));
+    uint32_t result = call_with(a, room_for(a->call));
     *found = result_of(0);
-    return number;
+    return result;
 }
 
 bool leave_the_same(const struct asked *a, const struct asked *b)
 {
-    static struct draft first;
+    static struct draft first[OUTPUTS];
     struct room room = draw_room(a->call);
-    uint32_t number = call_with(a, room);
-    first.len = 0;
-    put_bytes(&first, result_of(0));
-    return call_with(b, room) == number && equal(&first, &results[0]);
+    uint32_t result = call_with(a, room);
+    for (int k = 0; k < OUTPUTS; k++) {
+        first[k].len = 0;
+        put_bytes(&first[k], result_of(k));
+    }
+    bool same = call_with(b, room) == result;
+    for (int k = 0; k < OUTPUTS; k++)
+        same = same && equal(&first[k], &results[k]);
+    return same;
 }

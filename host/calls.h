@@ -1,4 +1,4 @@
-/* The eleven calls for tests: on exact copies of the inputs at odd addresses, into used buffers, and with a look at what is left. */
+/* The thirteen calls for tests: on exact copies of the inputs at odd addresses, into used buffers, and with a look at what is left. */
 #ifndef CALLS_H
 #define CALLS_H
 
@@ -6,11 +6,11 @@
 #include "words.h"
 
 enum call {
-    OLD_SEARCH, CUT, FIRST_REPLY, CALL_LIST, SECOND_REPLY, JOIN,
-    OLD_SEARCH_GROUPED, FIRST_REPLY_GROUPED, SECOND_REPLY_GROUPED, DEAREST, GENERATE, CALL_COUNT
+    OLD_SEARCH, CUT, FIRST_REPLY, CALL_LIST, SECOND_REPLY, JOIN, OLD_SEARCH_GROUPED, FIRST_REPLY_GROUPED, SECOND_REPLY_GROUPED,
+    FOUR_REPLIES, FOUR_REPLIES_GROUPED, DEAREST, GENERATE, CALL_COUNT
 };
 /* All numbers are below NUMBERS. */
-enum { INPUTS = 4, VALUES = 3, OUTPUTS = 2, NUMBERS = MOWQACHI_COUNTS + 1 };
+enum { INPUTS = 4, VALUES = 3, OUTPUTS = MOWQACHI_VISIT_PATHS, NUMBERS = MOWQACHI_COUNTS + 1 };
 
 /* The inputs of a call in its order; those that it has not are empty. Then its numbers: the site asked; or doors, outside targets and labels; or
    the state that it is lent, nodes and edges per node. */
@@ -42,21 +42,31 @@ bool too_short(enum call call, const struct room *room);
 struct room draw_room(enum call call);
 /* Whether a call is lent a state, the first of its numbers. */
 bool takes_state(enum call call);
-/* Whether a call reads a path by our groups. */
+/* Whether a call reads a path, or a bundle of paths, by our groups. */
 bool reads_path(enum call call);
 /* Such a call asked with groups. */
 struct asked with_groups(const struct asked *a, struct span groups);
+
+/* Whether a call is a visit: its result has a number for each of its outputs. That of any other call is its number, for all of them. */
+bool is_visit(enum call call);
+/* The bundle of paths that a visit reads. */
+struct span paths_of(const struct asked *a);
+/* The number that a result has for an output. */
+uint32_t number_for(enum call call, uint32_t result, int output);
+/* The result that has this number for all outputs, as where the whole is refused. */
+uint32_t number_for_all(enum call call, uint32_t number);
+
 /* The call itself. */
 uint32_t invoke(const struct asked *a, const struct buffers *b);
 /* The call with buffers of these lengths; stops the program where it leaves anything but what mowqachi.h says. */
 uint32_t call_with(const struct asked *a, struct room room);
-/* The same with buffers that are just long enough. The result, until the next call. */
-uint32_t call(const struct asked *a, struct span *result);
-/* The last call's result in an output, until the next call; empty after a refusal, and of an output that it has not. */
+/* The same with buffers that are just long enough. What is in the first output, until the next call. */
+uint32_t call(const struct asked *a, struct span *found);
+/* The last call's file in an output, until the next call; empty after a refusal, and where it has no such output or no path for it. */
 struct span result_of(int output);
 /* The state as the last call that was lent one gave it back. */
 uint32_t state_left(void);
-/* Whether two calls of one output leave the same, number and both buffers, whose lengths are drawn and may be too short. */
+/* Whether two calls with the same outputs leave the same, result and all buffers, whose lengths are drawn and may be too short. */
 bool leave_the_same(const struct asked *a, const struct asked *b);
 /* The numbers that a call has given so far, as bits. */
 unsigned numbers_given(enum call call);

@@ -194,7 +194,7 @@ const char *number_name(unsigned number)
 {
     static const char *const names[] = {
         "ACCEPTED", "BUFFER", "SIZE", "HEADER", "LENGTH", "WORD", "ORDER", "ROOT",
-        "TARGET", "OPERAND", "STATE", "CUT", "BUNDLE", "TWICE", "DOOR", "RESULT", "GROUPS", [MOWQACHI_COUNTS] = "COUNTS"};
+        "TARGET", "OPERAND", "STATE", "CUT", "BUNDLE", "TWICE", "DOOR", "RESULT", "GROUPS", "PATHS", [MOWQACHI_COUNTS] = "COUNTS"};
     return names[number];
 }
 
@@ -296,19 +296,25 @@ struct verdict check_whole(struct span s)
     return fine;
 }
 
-struct verdict check_front(struct span s, unsigned kind)
+/* The length of the file at the front of a stretch. */
+static struct verdict check_length(struct span s, size_t limit)
 {
-    struct verdict v = check_header(word_at(s, 0), kind);
     size_t length = length_of(word_at(s, 0));
-    if (v.number != 0)
-        return v;
     if (length == 0)
         return fault(4, "the header's length is 0");
-    if (length > layouts[kind].limit)
+    if (length > limit)
         return fault(4, "the header's length is over the limit");
     if (length > words_of(s))
         return fault(4, "the header's length leads past the end");
-    return check_words(upto(s, length), kind);
+    return fine;
+}
+
+struct verdict check_front(struct span s, unsigned kind)
+{
+    struct verdict v = check_header(word_at(s, 0), kind);
+    if (v.number == 0)
+        v = check_length(s, layouts[kind].limit);
+    return v.number != 0 ? v : check_words(front_of(s), kind);
 }
 
 /* 12: a site twice, or a different n. */
@@ -481,6 +487,24 @@ struct verdict check_groups(struct span s)
         if (check_group(word_at(s, i)).number != 0)
             return at(check_group(word_at(s, i)), i);
     return fine;
+}
+
+struct verdict check_paths(struct span s, size_t most)
+{
+    struct verdict v = check_size(s, MOWQACHI_BUNDLE_WORDS);
+    for (size_t i = 0, files = 0; v.number == 0 && i < words_of(s); i += length_of(word_at(s, i)), files++)
+        v = at(files < most ? check_length(from(s, i), SIZE_MAX) : fault(17, "there are more paths than the call takes"), i);
+    return v.number == 0 ? fine : at(fault(17, v.why), v.at);
+}
+
+struct verdict check_visit(struct span part, struct span groups, struct span paths, size_t most)
+{
+    struct verdict v = check_file(part, PART);
+    if (v.number == 0)
+        v = check_groups(groups);
+    if (v.number == 0)
+        v = check_paths(paths, most);
+    return v;
 }
 
 struct verdict check_against(struct span part, struct span path, struct span calls)

@@ -1,5 +1,6 @@
-/* The checks of document 01, with document 02's groups and its number 14, in their order, with the word at which one fails. They share no code with
-   the library, so that the two can be held against each other (agree.c, strays.c); both read the documents as docs/DECISIONS.md does. */
+/* The checks of document 01, with document 02's groups, its number 14 and its bundles of paths, in their order, with the word at which one fails.
+   They share no code with the library, so that the two can be held against each other (agree.c, strays.c, visits.c); both read the documents as
+   docs/DECISIONS.md does. */
 #ifndef CHECKS_H
 #define CHECKS_H
 
@@ -53,6 +54,10 @@ size_t first_stray(const struct calls *calls);
 struct verdict check_cuts(struct span whole, struct span cuts, unsigned site);
 /* The eight words of groups. */
 struct verdict check_groups(struct span s);
+/* A bundle of at most so many paths, by the lengths in its headers alone: 17. What each file of it (file_in) is, its own check says. */
+struct verdict check_paths(struct span s, size_t most);
+/* What refuses a visit as a whole, once there is room: its part, its groups, then its bundle of paths. */
+struct verdict check_visit(struct span part, struct span groups, struct span paths, size_t most);
 /* An accepted call list against an accepted path and an accepted part. */
 struct verdict check_against(struct span part, struct span path, struct span calls);
 

@@ -8,12 +8,12 @@
 #include "checks.h"
 #include "drafts.h"
 
-enum { WRITTEN_EVERY = 1000, GROUPED_EVERY = 4 };
+enum { WRITTEN_EVERY = 1000, GROUPED_EVERY = 4, VISITED_EVERY = 4, MOST_ASKED = 4 };
 
 /* The kinds of the calls' results: the inspector must accept what the library writes. */
-static const unsigned result_kinds[CALL_COUNT] = {LIST, PART, FIRST, CALLS, SECOND, LIST, LIST, FIRST, SECOND, PART, PART};
+static const unsigned result_kinds[CALL_COUNT] = {LIST, PART, FIRST, CALLS, SECOND, LIST, LIST, FIRST, SECOND, FIRST, FIRST, PART, PART};
 
-const char *const options[SUBJECTS] = {"--part", "--whole", "--path", "--calls", "--firsts", "--seconds", "--cut", "--groups", "--asked"};
+const char *const options[SUBJECTS] = {"--part", "--whole", "--path", "--calls", "--firsts", "--seconds", "--paths", "--cut", "--groups", "--asked"};
 
 struct input {
     size_t len;
@@ -60,7 +60,7 @@ bool headless(const struct sample *s, int k)
     switch (s->subject) {
     case AS_CUT: return k == 1;
     case AS_GROUPS: return k == 0;
-    case AS_ASKED: return s->files == MOST_FILES && k == 1;
+    case AS_ASKED: return s->files == INPUTS && k == 1;
     default: return false;
     }
 }
@@ -109,8 +109,19 @@ static struct verdict inspected(const struct sample *s)
         return v.number != 0 ? v : check_cuts(a, b, s->site);
     case AS_GROUPS: return then(check_groups(a), check_file(b, PATH));
     default:
-        return s->files == MOST_FILES ? inspected_asked(a, check_groups(b), c, input(3)) : inspected_asked(a, check_groups(our_groups), b, c);
+        return s->files == INPUTS ? inspected_asked(a, check_groups(b), c, input(3)) : inspected_asked(a, check_groups(our_groups), b, c);
     }
+}
+
+/* The numbers of a visit whose replies are within their limit. */
+static uint32_t inspected_visit(const struct asked *a)
+{
+    struct span paths = paths_of(a);
+    struct verdict v = check_visit(a->in[0], a->call == FOUR_REPLIES ? our_groups : a->in[1], paths, MOWQACHI_VISIT_PATHS);
+    uint32_t result = number_for_all(a->call, v.number);
+    for (size_t k = 0; v.number == 0 && file_in(paths, k).len > 0; k++)
+        result |= (uint32_t)check_file(file_in(paths, k), PATH).number << 8 * k;
+    return result;
 }
 
 void put_or(struct file *f, uint32_t label, size_t labels, size_t most)
@@ -170,17 +181,18 @@ static struct span no_calls(unsigned n)
     return (struct span){bare, sizeof bare};
 }
 
-/* The calls that read a path. */
-static int calls_for_path(struct span path, struct asked asked[3])
+/* The calls that read a path, also as a bundle of one. */
+static int calls_for_path(struct span path, struct asked asked[MOST_ASKED])
 {
     asked[0] = (struct asked){FIRST_REPLY, {lone_part, path}, {0}};
     asked[1] = (struct asked){OLD_SEARCH, {lone_root, path}, {0}};
     asked[2] = (struct asked){SECOND_REPLY, {lone_part, path, no_calls(n_in(path))}, {0}};
-    return 3;
+    asked[3] = (struct asked){FOUR_REPLIES, {lone_part, path}, {0}};
+    return 4;
 }
 
 /* The same with groups. */
-static int calls_for_groups(struct span groups, struct span path, struct asked asked[3])
+static int calls_for_groups(struct span groups, struct span path, struct asked asked[MOST_ASKED])
 {
     int count = calls_for_path(path, asked);
     for (int k = 0; k < count; k++)
@@ -189,14 +201,15 @@ static int calls_for_groups(struct span groups, struct span path, struct asked a
 }
 
 /* The calls that read the sample as what it is given as, with nothing to refuse in their other inputs. */
-static int calls_for(const struct sample *s, struct asked asked[3])
+static int calls_for(const struct sample *s, struct asked asked[MOST_ASKED])
 {
     struct span a = input(0), b = input(1), c = input(2);
     switch (s->subject) {
     case AS_PART:
         asked[0] = (struct asked){FIRST_REPLY, {a, path_of(0)}, {0}};
         asked[1] = (struct asked){SECOND_REPLY, {a, path_of(0), no_calls(0)}, {0}};
-        return 2;
+        asked[2] = (struct asked){FOUR_REPLIES, {a, path_of(0)}, {0}};
+        return 3;
     case AS_WHOLE:
         asked[0] = (struct asked){OLD_SEARCH, {a, path_of(0)}, {0}};
         asked[1] = (struct asked){CUT, {a, no_cut(a)}, {0}};
@@ -206,8 +219,9 @@ static int calls_for(const struct sample *s, struct asked asked[3])
     case AS_CALLS: asked[0] = (struct asked){SECOND_REPLY, {lone_part, path_of(n_in(a)), a}, {0}}; return 1;
     case AS_FIRSTS: asked[0] = (struct asked){CALL_LIST, {a}, {0}}; return 1;
     case AS_SECONDS: asked[0] = (struct asked){JOIN, {a}, {0}}; return 1;
+    case AS_PATHS: asked[0] = (struct asked){FOUR_REPLIES, {lone_part, a}, {0}}; return 1;
     case AS_CUT: asked[0] = (struct asked){CUT, {a, b}, {s->site}}; return 1;
-    default: asked[0] = (struct asked){s->files == MOST_FILES ? SECOND_REPLY_GROUPED : SECOND_REPLY, {a, b, c, input(3)}, {0}}; return 1;
+    default: asked[0] = (struct asked){s->files == INPUTS ? SECOND_REPLY_GROUPED : SECOND_REPLY, {a, b, c, input(3)}, {0}}; return 1;
     }
 }
 
@@ -236,13 +250,13 @@ static _Noreturn void stop_at_inputs(void)
     exit(1);
 }
 
-static void disagree(const struct sample *s, unsigned theirs, unsigned ours)
+static _Noreturn void disagree(const struct sample *s, unsigned theirs, unsigned ours)
 {
-    printf("%s: the library gives %u, the inspector %u, for\n", options[s->subject], theirs, ours);
+    printf("%s: the library gives %u (0x%x), the inspector %u (0x%x), for\n", options[s->subject], theirs, theirs, ours, ours);
     stop_at_inputs();
 }
 
-/* A call that reads a path, beside the one that is handed our groups. */
+/* A call that reads paths, beside the one that is handed our groups. */
 static void compare_groups(const struct sample *s, const struct asked *plain)
 {
     struct asked ours = with_groups(plain, our_groups);
@@ -266,32 +280,58 @@ static void compare_alone(const struct sample *s, uint32_t number)
         disagree(s, number, v.number);
 }
 
+/* A call on the sample: its result, which is the inspector's too. */
+static uint32_t compare_call(const struct sample *s, const struct asked *asked)
+{
+    struct span found;
+    uint32_t result = call(asked, &found), due = is_visit(asked->call) ? inspected_visit(asked) : inspected(s).number;
+    if (result != due)
+        disagree(s, result, due);
+    for (int k = 0; k < OUTPUTS; k++) {
+        struct span file = result_of(k);
+        struct verdict v = check_file(file, result_kinds[asked->call]);
+        if (file.len > 0 && v.number != 0)
+            disagree(s, result, v.number);
+    }
+    if (reads_path(asked->call) && draw(GROUPED_EVERY) == 0)
+        compare_groups(s, asked);
+    return result;
+}
+
+/* Whether a call is made: a visit, whose buffers take time, only now and then where the sample is no bundle of paths. */
+static bool is_made(const struct sample *s, const struct asked *asked)
+{
+    return s->subject == AS_PATHS || !is_visit(asked->call) || draw(VISITED_EVERY) == 0;
+}
+
+/* The first number of a result that is not 0, if there is one. */
+static uint32_t first_refusal(uint32_t result)
+{
+    while (result != 0 && mowqachi_number_at(result, 0) == 0)
+        result >>= 8;
+    return mowqachi_number_at(result, 0);
+}
+
 uint32_t compare(const struct sample *s)
 {
-    struct asked asked[3];
-    struct span found;
+    struct asked asked[MOST_ASKED];
     int count = lay_out(s);
-    uint32_t number = inspected(s).number;
-    for (int k = calls_for(s, asked) - 1; k >= 0; k--) {
-        uint32_t given = call(&asked[k], &found);
-        if (given != number)
-            disagree(s, given, number);
-        if (given == 0 && check_file(found, result_kinds[asked[k].call]).number != 0)
-            disagree(s, given, check_file(found, result_kinds[asked[k].call]).number);
-        if (reads_path(asked[k].call) && draw(GROUPED_EVERY) == 0)
-            compare_groups(s, &asked[k]);
-    }
+    uint32_t result = 0;
+    for (int k = calls_for(s, asked) - 1; k >= 0; k--)
+        if (is_made(s, &asked[k]))
+            result = compare_call(s, &asked[k]);
+    uint32_t number = first_refusal(result);
     compare_alone(s, number);
     if (numbers[s->subject][number]++ % WRITTEN_EVERY < 2)
         write_out(s, count, number);
-    return number;
+    return result;
 }
 
-void expect(const struct sample *s, uint32_t number)
+void expect(const struct sample *s, uint32_t result)
 {
     uint32_t got = compare(s);
-    if (got != number) {
-        printf("%s: document 01 has %u, the library gives %u\n", options[s->subject], (unsigned)number, (unsigned)got);
-        exit(1);
+    if (got != result) {
+        printf("%s: %u (0x%x) is due, the library gives %u (0x%x), for\n", options[s->subject], result, result, got, got);
+        stop_at_inputs();
     }
 }

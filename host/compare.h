@@ -6,10 +6,10 @@
 #include <stddef.h>
 #include <stdint.h>
 
-enum { MOST = 8200, MOST_FILES = 4 };
+enum { MOST = 8200, MOST_FILES = 6 };
 
 /* What a sample is given as. */
-enum subject { AS_PART, AS_WHOLE, AS_PATH, AS_CALLS, AS_FIRSTS, AS_SECONDS, AS_CUT, AS_GROUPS, AS_ASKED, SUBJECTS };
+enum subject { AS_PART, AS_WHOLE, AS_PATH, AS_CALLS, AS_FIRSTS, AS_SECONDS, AS_PATHS, AS_CUT, AS_GROUPS, AS_ASKED, SUBJECTS };
 
 /* The inspector's options for them. */
 extern const char *const options[SUBJECTS];
@@ -36,11 +36,11 @@ bool headless(const struct sample *s, int k);
 /* Appends an or of so many labels. Once `most` wait an or stands behind each label; the other ors come at the end. */
 void put_or(struct file *f, uint32_t label, size_t labels, size_t most);
 
-/* The library's number. Stops the program where the inspector's is another, or where a call that reads a path leaves something else than the one
-   that is handed our groups, which some of them are held to. */
+/* The library's number, or for a bundle of paths its result, with the number of each. Stops the program where the inspector's is another, or where a
+   call that reads paths leaves something else than the one that is handed our groups, which some of them are held to. */
 uint32_t compare(const struct sample *s);
 /* The same, and stops the program where it is not this one. */
-void expect(const struct sample *s, uint32_t number);
+void expect(const struct sample *s, uint32_t result);
 
 /* Writes some of the samples from now on, and a list: number, option, files. */
 void write_into(const char *directory);

@@ -64,8 +64,8 @@ static void write_files(const struct counts *c)
 static uint32_t check_bytes(const struct counts *c, struct room room)
 {
     struct asked asked = {DEAREST, {{NULL, 0}}, {c->doors, c->targets, c->labels}};
-    struct due due = {.number = number_due(c, &room)};
-    if (due.number == 0) {
+    struct due due = {.result = number_due(c, &room)};
+    if (due.result == 0) {
         write_files(c);
         due.files[0] = span_of(&plant);
         due.files[1] = span_of(&path);
@@ -73,7 +73,7 @@ static uint32_t check_bytes(const struct counts *c, struct room room)
     const char *wrong = check_among(&asked, room, &due);
     if (wrong != NULL)
         fail_at(c, wrong);
-    return due.number;
+    return due.result;
 }
 
 /* The words that a first reply can have, of the part and the path that there are. */

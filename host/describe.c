@@ -14,7 +14,7 @@ struct place {
     const uint32_t *groups; /* of a path */
     const struct calls *calls;  /* of a bundle of first replies, or NULL */
     const struct nodes *reached;    /* of a part, or NULL */
-    unsigned labels;        /* label words so far */
+    unsigned labels;        /* label words of the file so far */
 };
 
 typedef void line_printer(uint32_t w, size_t i, struct place *place);
@@ -73,6 +73,7 @@ static void print_word(uint32_t w, size_t i, struct place *place)
     printf("%s%5zu  %08x  ", header && i > 0 ? "\n" : "", i, (unsigned)w);
     if (header) {
         print_header(w);
+        place->labels = 0;
     } else if (kind_of(w) == LABEL) {
         printf("%-12s state %u, ", "label", ++place->labels);
         print_label(w, place->groups);
@@ -148,6 +149,20 @@ void print_verdict(struct verdict v, const char *unit, size_t count)
         printf("refused %u %s at %s %zu: %s\n", v.number, number_name(v.number), unit, v.at, v.why);
     else
         printf("refused %u %s at the end: %s\n", v.number, number_name(v.number), v.why);
+}
+
+void print_stretch(size_t number, struct span bundle, struct span file)
+{
+    size_t words = words_of(file);
+    printf("path %zu: %zu word%s from word %zu on\n", number, words, words == 1 ? "" : "s", (size_t)(file.bytes - bundle.bytes) / 4);
+}
+
+void print_numbers(uint32_t numbers)
+{
+    printf("numbers of the paths:");
+    for (unsigned k = 0; k < MOWQACHI_VISIT_PATHS; k++)
+        printf("%s %u", k == 0 ? "" : ",", (unsigned)mowqachi_number_at(numbers, k));
+    printf("\n");
 }
 
 /* How many words the operand that ends at word i has. */

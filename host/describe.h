@@ -21,6 +21,10 @@ void print_words(struct span s, struct verdict v, const struct beside *beside);
 void print_groups(struct span s, struct verdict v);
 /* The last line of a report on so many words or bytes. */
 void print_verdict(struct verdict v, const char *unit, size_t count);
+/* Where a file of a bundle of paths stands, counted from 1. */
+void print_stretch(size_t number, struct span bundle, struct span file);
+/* The numbers of the paths of a visit, and of those that it lacks. */
+void print_numbers(uint32_t numbers);
 /* An accepted path as an expression. */
 void print_expression(struct span path);
 /* What an accepted part has. */

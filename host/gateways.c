@@ -183,7 +183,7 @@ static enum ending gather(const struct plan *p, enum call trip, struct span list
         struct asked asked = {.call = trip, .in = {span_of(&parts[site_at(p, trip, k)]), span_of(&path), list}};
         if (!writes(p, &asked, &reply))
             return REFUSED;
-        if (bundle->len + reply.len > sizeof bundle->bytes)
+        if (bundle->len + reply.len > 4 * MOWQACHI_BUNDLE_WORDS)
             return OVER;
         put_bytes(bundle, span_of(&reply));
     }

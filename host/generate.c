@@ -44,15 +44,15 @@ static uint32_t number_due(const struct counts *c, const struct room *room)
 static uint32_t check_bytes(const struct counts *c, struct room room)
 {
     struct asked asked = {GENERATE, {{NULL, 0}}, {c->state, c->nodes, c->edges}};
-    struct due due = {.number = number_due(c, &room), .state = c->state};
-    if (due.number == 0) {
+    struct due due = {.result = number_due(c, &room), .state = c->state};
+    if (due.result == 0) {
         write_generated(&plant, &due.state, c->nodes, c->edges);
         due.files[0] = span_of(&plant);
     }
     const char *wrong = check_among(&asked, room, &due);
     if (wrong != NULL)
         fail_at(c, wrong);
-    return due.number;
+    return due.result;
 }
 
 /* Buffers that are just long enough, and what the inspector says of the plant. The number. */

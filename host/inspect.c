@@ -1,5 +1,5 @@
-/* The inspector: a file of document 01, or document 02's groups, word by word, and the first check that fails. Its exit code is the refusal's
-   number, 0 where all is accepted, and 64 where there is nothing to inspect. */
+/* The inspector: a file of document 01, or document 02's groups or bundle of paths, word by word, and the first check that fails. Its exit code is
+   the refusal's number, 0 where all is accepted, and 64 where there is nothing to inspect. */
 #include <ctype.h>
 #include <errno.h>
 #include <stdio.h>
@@ -13,10 +13,13 @@
 
 enum { NOTHING = 64, MOST_BYTES = 1 << 20, MOST_FILES = 4 };
 
+static const struct span our_groups = {(const uint8_t *)mowqachi_our_groups, sizeof mowqachi_our_groups};
+
 static const char usage[] =
     "usage: inspect [--hex] [AS] FILE              a file or a bundle\n"
     "       inspect [--hex] --cut WHOLE CUT        a cut list beside its whole\n"
     "       inspect [--hex] --groups GROUPS [PATH] eight words for the groups; a path with these groups\n"
+    "       inspect [--hex] --paths [GROUPS] PATHS a bundle of paths for one visit: its split, and each path by itself\n"
     "       inspect [--hex] --asked PART [GROUPS] PATH LIST\n"
     "                                              a call list beside the part and path of the site asked\n"
     "       inspect [--hex] --longest PART PATH    how long a first reply can be, by doors, outside targets and labels\n"
@@ -166,11 +169,9 @@ static unsigned as_files(const struct span *in)
     struct span rest = in[0];
     unsigned number;
     do {
-        size_t length = words_of(rest) > 0 ? length_of(word_at(rest, 0)) : 0;
-        bool bounded = length > 0 && length < words_of(rest);
-        struct span one = bounded ? upto(rest, length) : rest;
+        struct span one = front_of(rest);
         number = by_header(&one);
-        rest = (struct span){rest.bytes + one.len, rest.len - one.len};
+        rest = behind(rest, one);
         if (rest.len > 0)
             printf("\n");
     } while (number == 0 && rest.len > 0);
@@ -205,35 +206,86 @@ static unsigned as_cut(const struct span *in)
     return v.number;
 }
 
-/* The words of accepted groups. */
-static const uint32_t *read_groups(struct span s, uint32_t words[MOWQACHI_GROUP_COUNT])
+/* The words of groups that are accepted; others are reported. The number. */
+static unsigned read_groups(struct span s, uint32_t words[MOWQACHI_GROUP_COUNT])
 {
+    struct verdict v = check_groups(s);
+    if (v.number != 0)
+        return report_groups(s, v);
     for (size_t g = 0; g < MOWQACHI_GROUP_COUNT; g++)
         words[g] = word_at(s, g);
-    return words;
+    return 0;
 }
 
 static unsigned as_groups(const struct span *in)
 {
-    uint32_t own[MOWQACHI_GROUP_COUNT];
-    struct verdict v = check_groups(in[0]);
-    if (v.number != 0 || in[1].bytes == NULL)
-        return report_groups(in[0], v);
-    return report_beside(in[1], check_file(in[1], PATH), &(struct beside){.groups = read_groups(in[0], own)});
+    uint32_t groups[MOWQACHI_GROUP_COUNT];
+    if (in[1].bytes == NULL)
+        return report_groups(in[0], check_groups(in[0]));
+    unsigned number = read_groups(in[0], groups);
+    return number != 0 ? number : report_beside(in[1], check_file(in[1], PATH), &(struct beside){.groups = groups});
+}
+
+/* How far a bundle of paths can be split: the files that are as long as their headers say. */
+static void print_split(struct span paths)
+{
+    struct span rest = paths;
+    for (size_t number = 1; number <= MOWQACHI_VISIT_PATHS && words_of(rest) > 0; number++) {
+        struct span one = front_of(rest);
+        if (length_of(word_at(one, 0)) != words_of(one))
+            return;
+        print_stretch(number, paths, one);
+        rest = behind(rest, one);
+    }
+}
+
+/* The paths of a bundle that can be split, each by itself, and then their numbers and the first refusal. */
+static unsigned report_each(struct span paths, const struct beside *beside)
+{
+    struct verdict first = {0, 0, NULL};
+    uint32_t numbers = 0;
+    for (size_t k = 0; file_in(paths, k).len > 0; k++) {
+        struct span one = file_in(paths, k);
+        struct verdict v = check_file(one, PATH);
+        print_stretch(k + 1, paths, one);
+        numbers |= (uint32_t)report_beside(one, v, beside) << 8 * k;
+        printf("\n");
+        if (first.number == 0)
+            first = (struct verdict){v.number, k + 1, v.why};
+    }
+    print_numbers(numbers);
+    print_verdict(first, "path", SIZE_MAX);
+    return first.number;
+}
+
+static unsigned as_paths(const struct span *in)
+{
+    uint32_t groups[MOWQACHI_GROUP_COUNT];
+    bool grouped = in[1].bytes != NULL;
+    struct span paths = in[grouped ? 1 : 0];
+    struct beside beside = {.groups = groups};
+    unsigned number = read_groups(grouped ? in[0] : our_groups, groups);
+    if (number != 0)
+        return number;
+    struct verdict v = check_paths(paths, MOWQACHI_VISIT_PATHS);
+    if (v.number == 0)
+        return report_each(paths, &beside);
+    print_split(paths);
+    return report_beside(paths, v, &beside);
 }
 
 /* The inputs in the order in which a second reply is asked for: the groups, if there are any, stand between part and path. */
 static unsigned as_asked(const struct span *in)
 {
-    uint32_t own[MOWQACHI_GROUP_COUNT];
+    uint32_t groups[MOWQACHI_GROUP_COUNT];
     bool grouped = in[3].bytes != NULL;
     struct span part = in[0], path = in[grouped ? 2 : 1], list = in[grouped ? 3 : 2];
     struct verdict v = check_file(part, PART);
     if (v.number != 0)
         return report(part, v);
-    if (grouped && check_groups(in[1]).number != 0)
-        return report_groups(in[1], check_groups(in[1]));
-    const uint32_t *groups = grouped ? read_groups(in[1], own) : mowqachi_our_groups;
+    unsigned number = read_groups(grouped ? in[1] : our_groups, groups);
+    if (number != 0)
+        return number;
     v = check_file(path, PATH);
     if (v.number != 0)
         return report_beside(path, v, &(struct beside){.groups = groups});
@@ -295,8 +347,8 @@ static const struct mode {
 } modes[] = {
     {"--part", 1, 1, as_part}, {"--whole", 1, 1, as_whole}, {"--path", 1, 1, as_path}, {"--calls", 1, 1, as_calls}, {"--list", 1, 1, as_list},
     {"--firsts", 1, 1, as_firsts}, {"--seconds", 1, 1, as_seconds}, {"--files", 1, 1, as_files}, {"--dot", 1, 1, as_picture},
-    {"--cut", 2, 2, as_cut}, {"--groups", 1, 2, as_groups}, {"--asked", 3, MOST_FILES, as_asked}, {"--longest", 2, 2, as_longest},
-    {"--shared", 1, 2, as_shared}, {"--generated", 2, 2, as_generated},
+    {"--cut", 2, 2, as_cut}, {"--groups", 1, 2, as_groups}, {"--paths", 1, 2, as_paths}, {"--asked", 3, MOST_FILES, as_asked},
+    {"--longest", 2, 2, as_longest}, {"--shared", 1, 2, as_shared}, {"--generated", 2, 2, as_generated},
 };
 
 static struct mode mode_of(const char *option)

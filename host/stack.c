@@ -11,8 +11,8 @@
 #include "calls.h"
 #include "drafts.h"
 
-/* No call may need more than BOUND bytes: docs/CALLS.md says so. */
-enum { STACK = 65536, GUARD = 4096, PAINT = 0xc3, RED_ZONE = 128, BOUND = 1280, MOST_JOBS = 64 };
+/* No call may need as many bytes: docs/CALLS.md says so. */
+enum { STACK = 65536, GUARD = 4096, PAINT = 0xc3, RED_ZONE = 128, BOUND = 1536, MOST_JOBS = 64 };
 
 /* A call to be made on the small stack, and what came of it. */
 struct job {
@@ -151,7 +151,7 @@ static void fill_words(struct draft *f, uint32_t header, uint32_t first)
     end_file(f, from, header);
 }
 
-/* A call, and where it reads a path also the one with groups. */
+/* A call, and where it reads paths also the one with groups. */
 static void add(enum call call, uint32_t expected, struct span a, struct span b, struct span c)
 {
     struct asked asked = {call, {a, b, c}, {0}};
@@ -162,7 +162,7 @@ static void add(enum call call, uint32_t expected, struct span a, struct span b,
 
 static void add_searches(void)
 {
-    static struct draft loops, halted, ring, reply, outside, ors, thens, calls;
+    static struct draft loops, halted, ring, reply, outside, ors, thens, four, calls;
     static uint8_t cuts[MOWQACHI_PART_WORDS];
     const struct span none = {NULL, 0};
     fill_part(&loops, 2, 1365, 0);
@@ -190,6 +190,14 @@ static void add_searches(void)
     add(SECOND_REPLY, 0, span_of(&halted), span_of(&ors), span_of(&calls));
     add(SECOND_REPLY, 0, span_of(&ring), span_of(&thens), span_of(&calls));
     add(SECOND_REPLY, 0, span_of(&outside), span_of(&ors), span_of(&calls));
+    put_bytes(&four, span_of(&ors));
+    put_bytes(&four, span_of(&thens));
+    put_bytes(&four, span_of(&ors));
+    put_bytes(&four, span_of(&thens));
+    add(FOUR_REPLIES, 0, span_of(&loops), span_of(&four), none);
+    add(FOUR_REPLIES, 0, span_of(&halted), span_of(&four), none);
+    add(FOUR_REPLIES, 0x0f0f0f0f, span_of(&reply), span_of(&four), none);
+    add(FOUR_REPLIES, 0x0f0f0f0f, span_of(&outside), span_of(&four), none);
 }
 
 static void add_bundles(void)

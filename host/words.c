@@ -42,6 +42,24 @@ struct span upto(struct span s, size_t count)
     return (struct span){s.bytes, 4 * count};
 }
 
+struct span front_of(struct span s)
+{
+    size_t length = words_of(s) > 0 ? length_of(word_at(s, 0)) : 0;
+    return length > 0 && length < words_of(s) ? upto(s, length) : s;
+}
+
+struct span behind(struct span s, struct span front)
+{
+    return (struct span){s.bytes + front.len, s.len - front.len};
+}
+
+struct span file_in(struct span s, size_t index)
+{
+    for (; index > 0 && s.len > 0; index--)
+        s = behind(s, front_of(s));
+    return front_of(s);
+}
+
 unsigned kind_of(uint32_t w) { return bits(w, 31, 28); }
 unsigned site_of(uint32_t header) { return bits(header, 27, 24); }
 unsigned n_of(uint32_t header) { return bits(header, 23, 20); }

@@ -33,6 +33,11 @@ uint32_t bits(uint32_t w, unsigned high, unsigned low);
 /* From word i on, and the first count words. */
 struct span from(struct span s, size_t i);
 struct span upto(struct span s, size_t count);
+/* Files one after another, each as long as its header says: the one at the front of a stretch, all of which goes with it where its length is 0 or
+   leads past the end; what is behind it; and the file at an index, empty past the last one. */
+struct span front_of(struct span s);
+struct span behind(struct span s, struct span front);
+struct span file_in(struct span s, size_t index);
 
 unsigned kind_of(uint32_t w);
 unsigned site_of(uint32_t header);

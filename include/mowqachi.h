@@ -1,22 +1,24 @@
 /* The split link search, for a C11 or C++ host. docs/CALLS.md tells which call belongs where, docs/FORMATS.md what every file, trip and
    number is: document 01, and of document 02 the requests 1, labels outside a range, 2, generated plants, 3, groups of the caller's own, 5, links
-   that nobody walks, 7, stopped nodes, 9, eight operands waiting, and 13, the dearest reply.
+   that nobody walks, 6, four paths in one visit, 7, stopped nodes, 9, eight operands waiting, and 13, the dearest reply.
 
-   Buffers. A length is in bytes. Any alignment will do. Inputs are only read, and may overlap one another. The output, or each of two, and the
-   working buffer overlap nothing: neither one another nor an input. A pointer is never null: where a length is 0, pass the address of any object.
-   What outputs and working buffer hold before a call does not matter. Longer ones than asked for are fine, of any length. A state that is lent is
-   one aligned word of the host's, which the call reads and writes; it overlaps nothing, and its pointer is never null either. During a call no
-   other thread changes its inputs or touches its other buffers or the state.
+   Buffers. A length is in bytes. Any alignment will do. Inputs are only read, and may overlap one another. Outputs and the working buffer overlap
+   nothing: neither one another nor an input. A pointer is never null: where a length is 0, pass the address of any object. What outputs and working
+   buffer hold before a call does not matter. Longer ones than asked for are fine, of any length. A state that is lent is one aligned word of the
+   host's, which the call reads and writes; it overlaps nothing, and its pointer is never null either. During a call no other thread changes its
+   inputs or touches its other buffers or the state.
 
-   After a call. At 0 the output begins with the result, a file whose first word tells its length (mowqachi_file_bytes), and is zero past
-   it; of two outputs each does. At any other number it is zero from end to end, and so are both of two. The working buffer is zero after every
+   After a call. A call gives one number, for all its outputs; but a visit, a call for several paths, gives four, one for each output
+   (mowqachi_number_at). At 0 an output begins with its result, a file whose first word tells its length (mowqachi_file_bytes), and is zero past it.
+   At any other number it is zero from end to end, and so is at 0 an output for which a visit has no path. The working buffer is zero after every
    call, to its full length. A lent state has moved on at 0, and is as it was at any other number.
 
    Order of checks: 1, of any buffer; then the inputs in the order of the parameters; then 15. In one input 2, 3, 4, then word by word 5, 10, 6,
    7, 9, then at its end 5, 7, 8, 9. A cut list has only 11, and so has the site asked, after it. Groups have only 16. Counts of a dearest part and
-   path have only 21, and those of a generated plant only 11; a state has none. In a bundle 2, then file by file as above, then over all files 12, 7,
-   13, and 14 once it is known which pairs are called, however many. A call list by itself, then 12 against the path and 14 against the part. The
-   first check that fails gives the number.
+   path have only 21, and those of a generated plant only 11; a state has none. In a bundle of replies 2, then file by file as above, then over all
+   files 12, 7, 13, and 14 once it is known which pairs are called, however many. A call list by itself, then 12 against the path and 14 against the
+   part. A bundle of paths has only 17; what comes behind that, the checks of each path and its 15, is this path's alone. The first check that fails
+   gives the number.
 
    Labels outside a range. A path's label word of sort 2 (bits 27..24) has a range's fields, the high end in 23..12 and the low end in 11..0,
    and holds the labels below the low end and those above the high one: any label but 5 is 0x52005005. The low end is not above the high one.
@@ -49,13 +51,13 @@ extern "C" {
 #define MOWQACHI_PATH_WORDS 64
 #define MOWQACHI_REPLY_WORDS 4096  /* first and second replies */
 #define MOWQACHI_CALLS_WORDS 4096  /* call lists */
-#define MOWQACHI_BUNDLE_WORDS 8192
+#define MOWQACHI_BUNDLE_WORDS 8192 /* bundles, of replies or of paths */
 #define MOWQACHI_LIST_WORDS 8192   /* final lists */
 
 /* The bytes of an output, at least. */
 #define MOWQACHI_PART_BYTES 16384  /* mowqachi_cut; the part of mowqachi_dearest; mowqachi_generate */
 #define MOWQACHI_PATH_BYTES 256    /* the path of mowqachi_dearest */
-#define MOWQACHI_REPLY_BYTES 16384 /* mowqachi_first_reply, mowqachi_second_reply, and with groups */
+#define MOWQACHI_REPLY_BYTES 16384 /* mowqachi_first_reply, mowqachi_second_reply, each of four of mowqachi_four_replies, and with groups */
 #define MOWQACHI_CALLS_BYTES 16384 /* mowqachi_call_list */
 #define MOWQACHI_LIST_BYTES 32768  /* mowqachi_old_search, and with groups; mowqachi_join */
 
@@ -76,6 +78,9 @@ extern "C" {
 #define MOWQACHI_PATH_LABELS 15
 #define MOWQACHI_WAITING 8
 
+/* In a bundle of paths: paths at most. There is at least one. */
+#define MOWQACHI_VISIT_PATHS 4
+
 /* In a generated plant: nodes at most, and edges drawn for each at most. Both are 1 at least. */
 #define MOWQACHI_GENERATED_NODES 256
 #define MOWQACHI_GENERATED_EDGES 4
@@ -86,7 +91,7 @@ enum mowqachi_number {
     MOWQACHI_BUFFER = 1,   /* an output or the working buffer too short */
     MOWQACHI_SIZE = 2,     /* no words, over the limit, or bytes not in fours */
     MOWQACHI_HEADER = 3,   /* header of another kind, or with a zero bit set */
-    MOWQACHI_LENGTH = 4,   /* header's length wrong; in a bundle 0, over 4,096 or past the end */
+    MOWQACHI_LENGTH = 4,   /* header's length wrong; in a bundle of replies 0, over 4,096 or past the end */
     MOWQACHI_WORD = 5,     /* word not allowed there, zero bit set, low end above high, row without reach words */
     MOWQACHI_ORDER = 6,    /* not strictly ascending */
     MOWQACHI_ROOT = 7,     /* root without door; second root; whole or first bundle without root */
@@ -99,6 +104,7 @@ enum mowqachi_number {
     MOWQACHI_DOOR = 14,    /* a pair of the call list's least set has a node that is no door of the bundle; a called node of the part is no door */
     MOWQACHI_RESULT = 15,  /* result over its limit */
     MOWQACHI_GROUPS = 16,  /* groups not just eight words, or with a word that is no range or has its low end above its high end */
+    MOWQACHI_PATHS = 17,   /* bundle of paths: none, too many, over 8,192 words, or headers' lengths that do not use up its bytes, such as 0 */
     MOWQACHI_COUNTS = 21   /* dearest part and path: a count that is 0, over 15 labels, doors and targets over 65,536, or a part over 4,096 words */
 };
 
@@ -118,6 +124,12 @@ static const uint32_t mowqachi_our_groups[MOWQACHI_GROUP_COUNT] = {
 static inline size_t mowqachi_file_bytes(const uint8_t *file)
 {
     return 4u * (file[0] + 256u * (file[1] & 0x3fu));
+}
+
+/* Of what a visit gives: the number of the path at this index, from 0 to 3. Each number is a byte, that of the first path the lowest. */
+static inline uint32_t mowqachi_number_at(uint32_t numbers, unsigned index)
+{
+    return numbers >> 8 * index & 0xff;
 }
 
 /* The old search: the final list of a whole plant and a path. A stopped root gives the empty list. Output: MOWQACHI_LIST_BYTES. */
@@ -162,6 +174,26 @@ uint32_t mowqachi_first_reply_grouped(const uint8_t *part, size_t part_len, cons
 uint32_t mowqachi_second_reply_grouped(const uint8_t *part, size_t part_len, const uint8_t *groups, size_t groups_len,
                                        const uint8_t *path, size_t path_len, const uint8_t *calls, size_t calls_len,
                                        uint8_t *out, size_t out_len, uint8_t *work, size_t work_len);
+
+/* First trip, at a site, for up to four paths in one visit. They are a bundle: one path behind another, each as long as its header says. The first
+   reply to a path goes to the output of the same place, and its number to the same place of the result (mowqachi_number_at). Words and number are
+   those that mowqachi_first_reply gives for the part and this path alone, in buffers of these lengths, 15 among them; a refused path leaves those of
+   the others alone. Past the last path numbers are 0 and outputs all zero. What refuses the whole is all four numbers, and zeroes all outputs: 1, of
+   any of the five buffers; then the part's; then 17 of the bundle, of which just the lengths in headers are looked at. So a header of another kind is
+   its path's own 3, a path over 64 words its own 2, and no path gets 4. The part is checked once, and not for each path.
+   Outputs: MOWQACHI_REPLY_BYTES each. */
+uint32_t mowqachi_four_replies(const uint8_t *part, size_t part_len, const uint8_t *paths, size_t paths_len,
+                               uint8_t *out1, size_t out1_len, uint8_t *out2, size_t out2_len,
+                               uint8_t *out3, size_t out3_len, uint8_t *out4, size_t out4_len,
+                               uint8_t *work, size_t work_len);
+
+/* The same with groups of the caller's own for all of the paths, as mowqachi_first_reply_grouped has them: 16 refuses the whole, between the part's
+   numbers and 17. Outputs: MOWQACHI_REPLY_BYTES each. */
+uint32_t mowqachi_four_replies_grouped(const uint8_t *part, size_t part_len, const uint8_t *groups, size_t groups_len,
+                                       const uint8_t *paths, size_t paths_len,
+                                       uint8_t *out1, size_t out1_len, uint8_t *out2, size_t out2_len,
+                                       uint8_t *out3, size_t out3_len, uint8_t *out4, size_t out4_len,
+                                       uint8_t *work, size_t work_len);
 
 /* For planners: the dearest part and path of so many doors, outside targets and labels. The part is of site 0 and without root; its nodes 0 to
    doors - 1 are doors, each with a link of label 0 to each of the `targets` nodes after them: 1 + doors * (1 + targets) words. The path is a star of

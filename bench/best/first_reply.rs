@@ -112,7 +112,7 @@ impl<'a> Components<'a> {
 pub fn first_reply(ask: &Ask, out: &mut [u8], work: &mut [u8]) -> u32 {
     settle(4096, out, work, || {
         let ws = part(&ask.file)?;
-        let a = path(&ask.path, None)?;
+        let a = path(&ask.path, &OURS)?;
         let graph = graph(&ws, &a);
         let mut components = Components::new(&graph, &a);
         door_words(&ws, &a, &graph, |i, q, list| {

@@ -24,7 +24,7 @@ pub fn graph(ws: &[u32], a: &Automaton) -> Graph {
 pub fn old_search(ask: &Ask, out: &mut [u8], work: &mut [u8]) -> u32 {
     settle(8192, out, work, || {
         let ws = whole(&ask.file)?;
-        let a = path(&ask.path, None)?;
+        let a = path(&ask.path, &OURS)?;
         final_list(&graph(&ws, &a), &a)
     })
 }

@@ -2,11 +2,13 @@
 mod bundles;
 mod parts;
 mod paths;
+mod visits;
 
 use crate::plain::{dear_part, dear_path};
 use crate::words::{bytes, OURS};
 use parts::Doors;
 use std::cell::Cell;
+pub use visits::{four_replies, four_replies_of_groups};
 
 /// What a call is asked: a part, a whole or a bundle, and whatever else the call takes.
 #[derive(Clone, Default)]
@@ -14,7 +16,10 @@ pub struct Ask {
     pub file: Vec<u8>,
     /// Read by the grouped calls alone.
     pub groups: Vec<u8>,
+    /// A path, or the bundle that a visit hands in.
     pub path: Vec<u8>,
+    /// The paths of that bundle, each by itself.
+    pub paths: Vec<Vec<u8>>,
     pub cuts: Vec<u8>,
     pub site: u32,
     pub calls: Vec<u8>,
@@ -100,13 +105,13 @@ pub fn first_reply() -> Vec<Shape> {
         shape("states one by one, one pair outside, 15 rows a door", |n| search(parts::leaving(n), paths::one_by_one())),
         shape("two random links, fifteen turns, all doors", |n| search(parts::random(n, 2, Doors::All), paths::turns())),
         shape("no link, all doors", |n| search(parts::bare(n, Doors::All), paths::full_ranges())),
-        shape("one link outside a door, a row each", |n| search(parts::doorways(n), paths::any_label())),
+        shape("one link outside a door, a row each", |n| search(parts::doorways(n), paths::any_label(0))),
         shape("one door, targets outside descending", |n| search(parts::outward(n), paths::last_label())),
         shape("two random links, fifteen turns, all doors, every eighth stopped", |n| {
             search(parts::stopped(parts::random(n, 2, Doors::All)), paths::turns())
         }),
         shape("one link outside a door, a row each, every eighth stopped", |n| {
-            search(parts::stopped(parts::doorways(n)), paths::any_label())
+            search(parts::stopped(parts::doorways(n)), paths::any_label(0))
         }),
         shape("two random links, all doors, labels outside ranges", |n| search(parts::random(n, 2, Doors::All), paths::outside_halves())),
         shape("two random links, fifteen turns, all doors, eight operands waiting", |n| {

@@ -116,6 +116,11 @@ pub fn leaving(size: usize) -> Vec<u32> {
     ring(size, Doors::First((size as u32 - 1) / 31), &[edge(1, 60_000)])
 }
 
+/// Document 01's part of site 0.
+pub fn document_01() -> Vec<u32> {
+    seal(vec![0, NODE | DOOR | ROOT | 1, edge(5, 2), NODE | DOOR | 3, edge(5, 2)])
+}
+
 /// A call list of about `size` words: so many nodes as fit, each in states 0 to 3.
 pub fn calls(nodes: &[u32], labels: u32, size: usize) -> Vec<u32> {
     let mut ws = vec![0];

@@ -1,4 +1,4 @@
-//! Paths of fifteen labels.
+//! Paths, of fifteen labels but for document 01's.
 use super::Draws;
 use crate::words::*;
 
@@ -20,9 +20,9 @@ fn star_of_or(labels: impl Iterator<Item = u32>) -> Vec<u32> {
     seal(ws)
 }
 
-/// An or of fifteen ranges, of which only the first holds label 0: no star, so that only state 0 has a row.
-pub fn any_label() -> Vec<u32> {
-    let mut ws = star_of_or((0..15).map(|k| range(k, 4095)));
+/// An or of fifteen ranges, of which one alone holds label 0, the first if `turn` is 0: no star, so that only state 0 has a row.
+pub fn any_label(turn: u32) -> Vec<u32> {
+    let mut ws = star_of_or((0..15).map(|k| range((turn + k) % 15, 4095)));
     ws.pop();
     seal(ws)
 }
@@ -66,6 +66,24 @@ pub fn groups() -> Vec<u32> {
 pub fn eight_waiting(path: Vec<u32>) -> Vec<u32> {
     let (labels, operators): (Vec<u32>, Vec<u32>) = path[1..].iter().partition(|&&w| kind(w) == 5);
     seal([&[0], &labels[..8], &operators[..7], &labels[8..], &operators[7..]].concat())
+}
+
+/// The path without its last two words: two operands are left (9).
+pub fn unfinished(path: Vec<u32>) -> Vec<u32> {
+    seal(path[..path.len() - 2].to_vec())
+}
+
+/// The path behind a header of another kind (3).
+pub fn foreign(mut path: Vec<u32>) -> Vec<u32> {
+    path[0] ^= 1 << 28;
+    path
+}
+
+/// Document 01's own path, 5 then (6 then 5)*, and three more over its labels: 5 then 6 then 5, the empty word, and (5 or 6)*.
+pub fn document_01() -> [Vec<u32>; 4] {
+    let (five, six) = (range(5, 5), range(6, 6));
+    [vec![0, five, six, five, THEN, STAR, THEN], vec![0, five, six, THEN, five, THEN], vec![0, EMPTY], vec![0, five, six, OR, STAR]]
+        .map(seal)
 }
 
 /// A star of an or of fifteen times the one label that no link of `parts::outward` has.

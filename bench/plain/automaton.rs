@@ -1,5 +1,5 @@
 //! A path and its position automaton.
-use super::files::{file, groups, unless};
+use super::files::{file, unless};
 use crate::words::*;
 
 /// At most so many operands wait at any word.
@@ -78,15 +78,14 @@ fn operate(op: u32, stack: &mut Vec<Operand>, follow: &mut [u16; 16]) -> Result<
     Ok(())
 }
 
-/// A path, and ahead of it the groups that the call is handed, if it is.
-pub fn path(bytes: &[u8], handed: Option<&[u8]>) -> Result<Automaton, u32> {
-    let groups = groups(handed)?;
+/// A path, read by these groups.
+pub fn path(bytes: &[u8], groups: &Groups) -> Result<Automaton, u32> {
     let ws = file(bytes, 64, 4, 0x0f00_0000)?;
     let (mut stack, mut follow, mut ends, mut outside) = (Vec::with_capacity(MOST_WAITING + 1), [0; 16], Vec::with_capacity(16), 0);
     for &w in &ws[1..] {
         match kind(w) {
             5 => {
-                ends.push(letter(w, &groups)?);
+                ends.push(letter(w, groups)?);
                 // a sixteenth label is refused at the end
                 let only = 1u16.checked_shl(ends.len() as u32).unwrap_or(0);
                 outside |= if sort(w) == 2 { only } else { 0 };

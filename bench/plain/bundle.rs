@@ -47,14 +47,18 @@ fn second_words(_: u32, ws: &[u32]) -> Result<(), u32> {
     Ok(())
 }
 
+/// The words of the file that begins with this header, of so many that are left. None where its length is 0 or past the end.
+pub fn stretch(h: u32, left: usize) -> Option<usize> {
+    Some(size(h)).filter(|&len| 0 < len && len <= left)
+}
+
 /// 2, then file by file.
 fn files(bytes: &[u8], kind_is: u32, body: impl Fn(u32, &[u32]) -> Result<(), u32>) -> Outcome {
     let ws = sized(bytes, 8192)?;
     let mut rest = &ws[..];
     while let Some(&h) = rest.first() {
-        let len = size(h);
-        head(h, kind_is, 0, len)?;
-        unless(4, 0 < len && len <= 4096 && len <= rest.len())?;
+        head(h, kind_is, 0, size(h))?;
+        let len = stretch(h, rest.len()).filter(|&len| len <= 4096).ok_or(4u32)?;
         body(h, &rest[1..len])?;
         rest = &rest[len..];
     }

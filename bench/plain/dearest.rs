@@ -1,7 +1,7 @@
 //! The dearest part and path.
 use super::files::{settle_each, unless};
 use crate::inputs::Ask;
-use crate::timing::two_outputs;
+use crate::timing::{outputs, PART_BYTES, PATH_BYTES};
 use crate::words::*;
 
 /// 21. In 64 bits no sum and no product wraps.
@@ -39,9 +39,10 @@ pub fn dear_path(labels: u32) -> Vec<u32> {
 }
 
 pub fn dearest(ask: &Ask, out: &mut [u8], work: &mut [u8]) -> u32 {
-    settle_each([4096, 64], two_outputs(out), work, || {
+    let [number, _] = settle_each([4096, 64], outputs(out, [PART_BYTES, PATH_BYTES]), work, || {
         let [doors, targets, labels] = ask.counts;
         check(ask.counts)?;
-        Ok([dear_part(doors, targets), dear_path(labels)])
-    })
+        Ok([Ok(dear_part(doors, targets)), Ok(dear_path(labels))])
+    });
+    number
 }

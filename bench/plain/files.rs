@@ -4,37 +4,42 @@ use crate::words::*;
 /// The words of a result, or the number of the refusal.
 pub type Outcome = Result<Vec<u32>, u32>;
 
-/// Runs a call whose result has at most `limit` words, and leaves its outcome in the buffers.
-pub fn settle(limit: usize, out: &mut [u8], work: &mut [u8], call: impl FnOnce() -> Outcome) -> u32 {
-    settle_each([limit], [out], work, || call().map(|words| [words]))
+/// Leaves an outcome in an output. Gives its number.
+fn put(outcome: Outcome, out: &mut [u8]) -> u32 {
+    let (number, words) = match outcome {
+        Ok(words) => (0, words),
+        Err(number) => (number, Vec::new()),
+    };
+    let (result, rest) = out.split_at_mut(4 * words.len());
+    for (b, w) in result.chunks_exact_mut(4).zip(&words) {
+        b.copy_from_slice(&w.to_le_bytes());
+    }
+    rest.fill(0);
+    number
 }
 
-/// The same of a call with several results, each with an output of its own.
+/// Runs a call whose result has at most `limit` words, and leaves its outcome in the buffers.
+pub fn settle(limit: usize, out: &mut [u8], work: &mut [u8], call: impl FnOnce() -> Outcome) -> u32 {
+    let [number] = settle_each([limit], [out], work, || Ok([call()]));
+    number
+}
+
+/// The same of a call with several results, each with an output and a number of its own. What refuses the whole is the number of each.
 pub fn settle_each<const N: usize>(
     limits: [usize; N],
     outs: [&mut [u8]; N],
     work: &mut [u8],
-    call: impl FnOnce() -> Result<[Vec<u32>; N], u32>,
-) -> u32 {
+    call: impl FnOnce() -> Result<[Outcome; N], u32>,
+) -> [u32; N] {
     let room = outs.iter().zip(limits).all(|(out, limit)| out.len() / 4 >= limit) && work.len() >= 32_768;
-    let outcome = if room { call() } else { Err(1) };
+    let outcomes = if room { call() } else { Err(1) };
     work.fill(0);
-    match outcome {
-        Ok(results) => {
-            for (out, words) in outs.into_iter().zip(results) {
-                let (result, rest) = out.split_at_mut(4 * words.len());
-                for (b, w) in result.chunks_exact_mut(4).zip(&words) {
-                    b.copy_from_slice(&w.to_le_bytes());
-                }
-                rest.fill(0);
-            }
-            0
-        }
-        Err(number) => {
-            outs.into_iter().for_each(|out| out.fill(0));
-            number
-        }
+    let outcomes = outcomes.unwrap_or_else(|number| [(); N].map(|_| Err(number)));
+    let mut numbers = [0; N];
+    for ((number, outcome), out) in numbers.iter_mut().zip(outcomes).zip(outs) {
+        *number = put(outcome, out);
     }
+    numbers
 }
 
 /// A number, unless all is well.

@@ -1,6 +1,6 @@
 //! The first reply: a search for each door and state.
 use super::automaton::{path, Automaton};
-use super::files::{settle, unless, Outcome};
+use super::files::{groups, settle, unless, Outcome};
 use super::part::part;
 use super::search::{Graph, Search};
 use crate::inputs::Ask;
@@ -36,14 +36,13 @@ pub fn door_words(ws: &[u32], a: &Automaton, graph: &Graph, mut each: impl FnMut
     Ok(list)
 }
 
-/// A search for every door and state. The marks of one that reached nothing outside stay: whatever they have leads nowhere outside, so no
-/// later search need enter it.
-fn reply(ask: &Ask, handed: Option<&[u8]>) -> Outcome {
-    let ws = part(&ask.file)?;
-    let a = path(&ask.path, handed)?;
-    let graph = Graph::new(&ws, &a);
+/// The reply of a part that is accepted: a search for every door and state. The marks of one that reached nothing outside stay: whatever they
+/// have leads nowhere outside, so no later search need enter it.
+pub fn reply(ws: &[u32], path_bytes: &[u8], groups: &Groups) -> Outcome {
+    let a = path(path_bytes, groups)?;
+    let graph = Graph::new(ws, &a);
     let mut search = Search::new(&graph, &a);
-    door_words(&ws, &a, &graph, |i, q, list| {
+    door_words(ws, &a, &graph, |i, q, list| {
         search.enter(i, 1 << q);
         search.run();
         let before = list.len();
@@ -55,10 +54,18 @@ fn reply(ask: &Ask, handed: Option<&[u8]>) -> Outcome {
     })
 }
 
+/// A single call.
+pub fn single(ask: &Ask, handed: Option<&[u8]>, path_bytes: &[u8], out: &mut [u8], work: &mut [u8]) -> u32 {
+    settle(4096, out, work, || {
+        let ws = part(&ask.file)?;
+        reply(&ws, path_bytes, &groups(handed)?)
+    })
+}
+
 pub fn first_reply(ask: &Ask, out: &mut [u8], work: &mut [u8]) -> u32 {
-    settle(4096, out, work, || reply(ask, None))
+    single(ask, None, &ask.path, out, work)
 }
 
 pub fn first_reply_grouped(ask: &Ask, out: &mut [u8], work: &mut [u8]) -> u32 {
-    settle(4096, out, work, || reply(ask, Some(&ask.groups)))
+    single(ask, Some(&ask.groups), &ask.path, out, work)
 }

@@ -1,7 +1,7 @@
 //! A whole plant, drawn from a lent state.
 use super::files::{settle, unless};
 use crate::inputs::{Ask, Draws};
-use crate::timing::part_output;
+use crate::timing::{outputs, PART_BYTES};
 use crate::words::*;
 
 /// Puts an edge in its place among those from `first` on, unless it is there. At each the lesser stays and the greater goes on: the processor cannot
@@ -32,7 +32,8 @@ fn plant(draws: &mut Draws, nodes: u32, edges: u32) -> Vec<u32> {
 }
 
 pub fn generate(ask: &Ask, out: &mut [u8], work: &mut [u8]) -> u32 {
-    settle(4096, part_output(out), work, || {
+    let [out] = outputs(out, [PART_BYTES]);
+    settle(4096, out, work, || {
         let ([nodes, edges], mut draws) = (ask.plant, Draws(ask.state.get()));
         unless(11, (1..=256).contains(&nodes) && (1..=4).contains(&edges))?;
         let plant = plant(&mut draws, nodes, edges);

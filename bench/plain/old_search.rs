@@ -1,6 +1,6 @@
 //! The old search.
 use super::automaton::{path, Automaton};
-use super::files::{settle, Outcome};
+use super::files::{groups, settle, Outcome};
 use super::part::whole;
 use super::search::{Graph, Search};
 use super::second_reply::answers;
@@ -17,7 +17,7 @@ pub fn final_list(graph: &Graph, a: &Automaton) -> Outcome {
 
 fn list(ask: &Ask, handed: Option<&[u8]>) -> Outcome {
     let ws = whole(&ask.file)?;
-    let a = path(&ask.path, handed)?;
+    let a = path(&ask.path, &groups(handed)?)?;
     final_list(&Graph::new(&ws, &a), &a)
 }
 

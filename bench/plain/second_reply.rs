@@ -1,6 +1,6 @@
 //! The second reply.
 use super::automaton::{path, Automaton};
-use super::files::{calls, settle, unless, Outcome};
+use super::files::{calls, groups, settle, unless, Outcome};
 use super::part::part;
 use super::search::{Graph, Search};
 use crate::inputs::Ask;
@@ -35,7 +35,7 @@ pub fn called(nodes: &[u32], calls: &[u32]) -> Result<Vec<(usize, u16)>, u32> {
 
 fn reply(ask: &Ask, handed: Option<&[u8]>, graph: impl Fn(&[u32], &Automaton) -> Graph) -> Outcome {
     let ws = part(&ask.file)?;
-    let a = path(&ask.path, handed)?;
+    let a = path(&ask.path, &groups(handed)?)?;
     let cs = calls(&ask.calls)?;
     unless(12, labels(cs[0]) == a.n())?;
     let graph = graph(&ws, &a);

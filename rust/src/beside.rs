@@ -4,8 +4,9 @@ use crate::calls;
 use crate::evaluation::dearest::{Counts, Rooms};
 use crate::evaluation::generator::Source;
 use crate::evaluation::part::Part;
+use crate::evaluation::visit::{self, split_paths, VISIT_PATHS};
 use crate::evaluation::words::*;
-use crate::evaluation::{self, BothFiles, Generated, Outcome, Room};
+use crate::evaluation::{self, BothFiles, Generated, Outcome, Room, Visited};
 use crate::random::Random;
 
 /// A call that reads a path is made with groups or without.
@@ -19,30 +20,40 @@ pub enum Call {
     Join { bundle: Vec<u8> },
 }
 
-/// What a call leaves: in the state, if it is lent one, in its outputs, and last in its working buffer.
+/// First replies asked for in one visit, with groups or without: a bundle of paths, each answered in an output of its own.
+#[derive(Clone, Debug)]
+pub struct Visit {
+    pub part: Vec<u8>,
+    pub groups: Option<Vec<u8>>,
+    pub paths: Vec<u8>,
+}
+
+/// What a call leaves: its numbers, of which it mostly has one, and what is in the state, if it is lent one, in its outputs, and last in its
+/// working buffer.
 #[derive(PartialEq, Eq, Debug)]
 pub struct Left {
-    pub number: u32,
+    pub numbers: Vec<u32>,
     pub state: Option<u32>,
     pub buffers: Vec<Vec<u8>>,
 }
 
 impl Left {
     /// With a file in each of the first buffers, and zeros past it and in the others.
-    pub fn owed(number: u32, files: &[Vec<u32>], lengths: &[usize]) -> Left {
+    pub fn owed(numbers: &[u32], files: &[Vec<u32>], lengths: &[usize]) -> Left {
         let left = |(at, length): (usize, &usize)| {
             let mut bytes = files.get(at).map_or(vec![], |words| bytes_of(words));
             bytes.resize(*length, 0);
             bytes
         };
-        Left { number, state: None, buffers: lengths.iter().enumerate().map(left).collect() }
+        let buffers = lengths.iter().enumerate().map(left).collect();
+        Left { numbers: numbers.to_vec(), state: None, buffers }
     }
 
     /// What the call with two results owes.
     pub fn owed_both(outcome: &BothFiles, rooms: Rooms) -> Left {
         match outcome {
-            Ok(files) => Left::owed(0, files, &rooms),
-            Err(refusal) => Left::owed(refusal.number, &[], &rooms),
+            Ok(files) => Left::owed(&[0], files, &rooms),
+            Err(refusal) => Left::owed(&[refusal.number], &[], &rooms),
         }
     }
 
@@ -52,7 +63,18 @@ impl Left {
             Ok((words, state)) => (0, words.clone(), *state),
             Err(refusal) => (refusal.number, vec![], source.state),
         };
-        Left { state: Some(state), ..Left::owed(number, &[words], &[room.out, room.work]) }
+        Left { state: Some(state), ..Left::owed(&[number], &[words], &[room.out, room.work]) }
+    }
+
+    /// What a visit owes.
+    pub fn owed_visit(visited: &Visited, rooms: visit::Rooms) -> Left {
+        let (numbers, files) = answers(visited);
+        Left::owed(&numbers, &files, &rooms)
+    }
+
+    /// The number of a call that has one.
+    pub fn number(&self) -> u32 {
+        self.numbers[0]
     }
 
     /// The words of a buffer, without zeros at its end.
@@ -62,20 +84,25 @@ impl Left {
     }
 }
 
+/// The numbers of a visit as the library gives them, each in a byte of its own, the first path's in the lowest.
+pub fn numbers_of(word: u32) -> Vec<u32> {
+    word.to_le_bytes().map(u32::from).to_vec()
+}
+
 /// Makes a call in buffers of garbage. What it leaves, and whether its inputs and all guards stand.
 fn made_in<const N: usize>(
     random: &mut Random,
     inputs: &[&[u8]],
     lengths: [usize; N],
-    make: impl FnOnce(&[&[u8]], &mut [Guarded; N]) -> u32,
+    make: impl FnOnce(&[&[u8]], &mut [Guarded; N]) -> Vec<u32>,
 ) -> (Left, bool) {
     let given: Vec<Guarded> = inputs.iter().map(|bytes| Guarded::input(random, bytes)).collect();
     let mut lent = lengths.map(|length| Guarded::garbage(random, length));
-    let number = make(&given.iter().map(Guarded::inner).collect::<Vec<_>>(), &mut lent);
+    let numbers = make(&given.iter().map(Guarded::inner).collect::<Vec<_>>(), &mut lent);
     let kept = given.iter().zip(inputs).all(|(kept, bytes)| kept.inner() == *bytes);
     let guarded = given.iter().chain(&lent).all(Guarded::guards_stand);
     let buffers = lent.iter().map(|buffer| buffer.inner().to_vec()).collect();
-    (Left { number, state: None, buffers }, kept && guarded)
+    (Left { numbers, state: None, buffers }, kept && guarded)
 }
 
 impl Call {
@@ -190,7 +217,7 @@ impl Call {
     /// Makes the call in buffers of garbage. Panics where it changed an input or a guard.
     pub fn leaves(&self, random: &mut Random, room: Room) -> Left {
         let (left, stands) = made_in(random, &self.inputs(), [room.out, room.work], |given, [out, work]| {
-            self.make(given, out.inner_mut(), work.inner_mut())
+            vec![self.make(given, out.inner_mut(), work.inner_mut())]
         });
         assert!(stands, "{}, an input or a guard changed", self.told(room, &left));
         left
@@ -208,7 +235,7 @@ impl Call {
         let outcome = self.evaluate(room);
         let left = self.leaves(random, room);
         let (number, words) = answer(&outcome);
-        let right = left == Left::owed(number, &[words], &[room.out, room.work]);
+        let right = left == Left::owed(&[number], &[words], &[room.out, room.work]);
         assert!(right, "{}, the evaluation {outcome:x?}", self.told(room, &left));
         outcome
     }
@@ -223,8 +250,76 @@ impl Call {
             if grouped { " grouped" } else { "" },
             inputs.join("\n"),
             if let Call::Cut { site, .. } = self { Some(*site) } else { None },
-            left.number,
+            left.number(),
             left.told(0),
+        )
+    }
+}
+
+impl Visit {
+    /// The visit for the path of a first reply alone; `None` of another call, or where the path's bytes are not taken for just one file.
+    pub fn of(call: &Call) -> Option<Visit> {
+        match call {
+            Call::FirstReply { part, groups, path } if split_paths(path, 1).is_ok() => {
+                Some(Visit { part: part.clone(), groups: groups.clone(), paths: path.clone() })
+            }
+            _ => None,
+        }
+    }
+
+    /// The calls for each path by itself; none where the bundle is refused.
+    pub fn singles(&self) -> Vec<Call> {
+        let single = |path: &[u8]| {
+            let (part, groups, path) = (self.part.clone(), self.groups.clone(), path.to_vec());
+            Call::FirstReply { part, groups, path }
+        };
+        split_paths(&self.paths, VISIT_PATHS).map_or(vec![], |files| files.into_iter().map(single).collect())
+    }
+
+    fn inputs(&self) -> Vec<&[u8]> {
+        let inputs = [Some(&self.part), self.groups.as_ref(), Some(&self.paths)];
+        inputs.into_iter().flatten().map(Vec::as_slice).collect()
+    }
+
+    pub fn evaluate(&self, rooms: visit::Rooms) -> Visited {
+        evaluation::four_replies(&self.part, self.groups.as_deref(), &self.paths, rooms)
+    }
+
+    /// Makes the call in buffers of garbage. Panics where it changed an input or a guard.
+    pub fn leaves(&self, random: &mut Random, rooms: visit::Rooms) -> Left {
+        let (left, stands) = made_in(random, &self.inputs(), rooms, |given, lent| {
+            let [one, two, three, four, work] = lent;
+            let [one, two, three, four, work] = [one, two, three, four, work].map(Guarded::inner_mut);
+            numbers_of(match given {
+                [part, paths] => calls::four_replies(part, paths, one, two, three, four, work),
+                [part, groups, paths] => {
+                    calls::four_replies_grouped(part, groups, paths, one, two, three, four, work)
+                }
+                _ => unreachable!("inputs of another call"),
+            })
+        });
+        assert!(stands, "{}, an input or a guard changed", self.told(rooms, &left));
+        left
+    }
+
+    /// Makes the call and holds it to the evaluation's outcomes, which are handed back. Panics where they differ.
+    pub fn check(&self, random: &mut Random, rooms: visit::Rooms) -> Visited {
+        let visited = self.evaluate(rooms);
+        let left = self.leaves(random, rooms);
+        let right = left == Left::owed_visit(&visited, rooms);
+        assert!(right, "{}, the evaluation {visited:x?}", self.told(rooms, &left));
+        visited
+    }
+
+    /// The visit with its inputs and what the library gave.
+    pub fn told(&self, rooms: visit::Rooms, left: &Left) -> String {
+        let inputs: Vec<String> = self.inputs().into_iter().map(hex).collect();
+        let outputs: Vec<String> = (0..VISIT_PATHS).map(|at| left.told(at)).collect();
+        format!(
+            "four replies, {rooms:?}, inputs:\n{}\nthe library gives {:?} and\n{}",
+            inputs.join("\n"),
+            left.numbers,
+            outputs.join("\n"),
         )
     }
 }
@@ -233,13 +328,13 @@ impl Call {
 pub fn check_dearest(random: &mut Random, counts: Counts, rooms: Rooms) -> BothFiles {
     let [doors, targets, labels] = counts;
     let (left, stands) = made_in(random, &[], rooms, |_, [part, path, work]| {
-        calls::dearest(doors, targets, labels, part.inner_mut(), path.inner_mut(), work.inner_mut())
+        vec![calls::dearest(doors, targets, labels, part.inner_mut(), path.inner_mut(), work.inner_mut())]
     });
     let outcome = evaluation::dearest(counts, rooms);
     assert!(
         stands && left == Left::owed_both(&outcome, rooms),
         "dearest {counts:?}, {rooms:?}: the library gives {}, part\n{}\nand path\n{}, the evaluation {outcome:x?}",
-        left.number,
+        left.number(),
         left.told(0),
         left.told(1),
     );
@@ -252,14 +347,14 @@ pub fn check_generate(random: &mut Random, source: &Source, room: Room) -> Gener
     let (before, behind) = (random.word(), random.word());
     let mut lent = [before, source.state, behind];
     let (left, stands) = made_in(random, &[], [room.out, room.work], |_, [out, work]| {
-        calls::generate(&mut lent[1], source.nodes, source.edges, out.inner_mut(), work.inner_mut())
+        vec![calls::generate(&mut lent[1], source.nodes, source.edges, out.inner_mut(), work.inner_mut())]
     });
     let left = Left { state: Some(lent[1]), ..left };
     let outcome = evaluation::generate(source, room);
     assert!(
         stands && lent == [before, lent[1], behind] && left == Left::owed_drawn(&outcome, source, room),
         "generate {source:x?}, {room:?}: the library gives {}, state {:x} and {}, the evaluation {outcome:x?}",
-        left.number,
+        left.number(),
         lent[1],
         left.told(0),
     );
@@ -272,6 +367,18 @@ pub fn answer(outcome: &Outcome) -> (u32, Vec<u32>) {
         Ok(words) => (0, words.clone()),
         Err(refusal) => (refusal.number, vec![]),
     }
+}
+
+/// The numbers and the words of a visit, for each output: past the last path 0 and none, and a refusal of the whole has its number for all.
+pub fn answers(visited: &Visited) -> (Vec<u32>, Vec<Vec<u32>>) {
+    let (all, outcomes) = match visited {
+        Ok(outcomes) => (0, &outcomes[..]),
+        Err(refusal) => (refusal.number, &[][..]),
+    };
+    let (mut numbers, mut files): (Vec<_>, Vec<_>) = outcomes.iter().map(answer).unzip();
+    numbers.resize(VISIT_PATHS, all);
+    files.resize(VISIT_PATHS, vec![]);
+    (numbers, files)
 }
 
 pub fn hex(bytes: &[u8]) -> String {

@@ -1,4 +1,4 @@
-//! The eleven calls of the library, on slices. Each returns its number.
+//! The thirteen calls of the library, on slices. Each returns its number, or its numbers in one word.
 
 /// Declares calls under their C names, and makes of each a function on slices: the state that it is lent, inputs and numbers that it takes,
 /// if any, outputs and working buffer.
@@ -17,7 +17,8 @@ macro_rules! calls {
                 ) -> u32;)+
             }
         }
-        $(pub fn $name(
+        $(#[allow(clippy::too_many_arguments)] // as many as the C call has
+        pub fn $name(
             $($state: &mut u32,)?
             $($input: &[u8],)*
             $($($number: u32,)+)?
@@ -44,6 +45,8 @@ calls! {
     cut = mowqachi_cut(whole, cuts; site) -> out;
     first_reply = mowqachi_first_reply(part, path) -> out;
     first_reply_grouped = mowqachi_first_reply_grouped(part, groups, path) -> out;
+    four_replies = mowqachi_four_replies(part, paths) -> out1, out2, out3, out4;
+    four_replies_grouped = mowqachi_four_replies_grouped(part, groups, paths) -> out1, out2, out3, out4;
     call_list = mowqachi_call_list(bundle) -> out;
     second_reply = mowqachi_second_reply(part, path, calls) -> out;
     second_reply_grouped = mowqachi_second_reply_grouped(part, groups, path, calls) -> out;

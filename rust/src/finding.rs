@@ -1,14 +1,16 @@
 //! Which mistakes a call or a path finds out: by which of them a program would give another outcome.
 
-use crate::beside::{answer, Call, Left};
+use crate::beside::{answer, answers, Call, Left, Visit};
 use crate::evaluation::dearest::{Counts, Rooms};
 use crate::evaluation::generator::Source;
 use crate::evaluation::groups::{read_groups, Groups, OURS};
 use crate::evaluation::hub::{read_first_bundle, FirstBundle};
 use crate::evaluation::path::{read_path, read_path_by, MayStand, Path};
+use crate::evaluation::visit;
 use crate::evaluation::words::*;
-use crate::evaluation::{BothFiles, Generated, Outcome, Room};
+use crate::evaluation::{BothFiles, Generated, Outcome, Room, Visited};
 use crate::mistakes::generator::{self, Other};
+use crate::mistakes::visit::{self as visiting, Visiting};
 use crate::mistakes::*;
 
 /// The call with its plant's and path's words taken for others, if any of them is.
@@ -108,7 +110,7 @@ pub fn found_out_by_call(call: &Call, room: Room, outcome: &Outcome) -> Vec<&'st
 /// are accepted, any one those in what is left.
 pub fn found_out_by_counts(counts: Counts, rooms: Rooms, outcome: &BothFiles) -> Vec<&'static str> {
     let right = Left::owed_both(outcome, rooms);
-    let accepting = |accepting: &Accepting| right.number != 1 && accepting(counts) != outcome.is_ok();
+    let accepting = |accepting: &Accepting| right.number() != 1 && accepting(counts) != outcome.is_ok();
     let written = |written: &Written| outcome.as_ref().map_or(false, |files| written(counts) != *files);
     let leaving = |leaving: &Leaving| leaving(&(counts, rooms)) != right;
     [names(&COUNTS, accepting), names(&WRITTEN, written), names(&LEAVING, leaving)].concat()
@@ -119,12 +121,35 @@ pub fn found_out_by_counts(counts: Counts, rooms: Rooms, outcome: &BothFiles) ->
 pub fn found_out_by_source(source: &Source, room: Room, outcome: &Generated) -> Vec<&'static str> {
     let right = Left::owed_drawn(outcome, source, room);
     let accepting = |accepting: &generator::Accepting| {
-        right.number != 1 && accepting(source.nodes, source.edges) != outcome.is_ok()
+        right.number() != 1 && accepting(source.nodes, source.edges) != outcome.is_ok()
     };
     let drawing = |other: &Other| outcome.as_ref().map_or(false, |own| other.program().draw(source) != *own);
     let leaving = |leaving: &generator::Leaving| leaving(&(*source, room)) != right;
     let counts = names(&generator::COUNTS, accepting);
     [counts, names(&generator::DRAWING, drawing), names(&generator::LEAVING, leaving)].concat()
+}
+
+/// The mistakes that the last path of a visit finds out as a call by itself, in buffers as short as the shortest.
+fn found_out_by_last_path(visit: &Visit, rooms: visit::Rooms, visited: &Visited) -> Vec<&'static str> {
+    let single = match visit.singles().pop() {
+        Some(single) => single,
+        None => return vec![],
+    };
+    let [outs @ .., work] = rooms;
+    let room = Room { out: outs.into_iter().fold(usize::MAX, usize::min), work };
+    let of_last = |outcomes: &Vec<Outcome>| outcomes.last().cloned();
+    let outcome = visited.as_ref().ok().and_then(of_last).unwrap_or_else(|| single.evaluate(room));
+    found_out_by_call(&single, room, &outcome)
+}
+
+/// The mistakes that a visit finds out: those that its last path does, and those about visits.
+pub fn found_out_by_visit(visit: &Visit, rooms: visit::Rooms, visited: &Visited) -> Vec<&'static str> {
+    let asked = Visiting::new(visit, rooms, visited);
+    let (right, left) = (answers(visited), Left::owed_visit(visited, rooms));
+    let differs = |other: &visiting::Other| other.program().answer(&asked) != right;
+    let programs = visiting::PROGRAMS.map(|table| names(table, differs)).concat();
+    let leaving = names(&visiting::LEAVING, |leaving| leaving(&asked) != left);
+    [found_out_by_last_path(visit, rooms, visited), programs, leaving].concat()
 }
 
 /// The mistakes in reading label words, and the groups that are handed in, by which a path is refused, or `of` it is not what is right.

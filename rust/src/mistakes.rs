@@ -5,6 +5,7 @@ pub mod generator;
 pub mod growth;
 pub mod learning;
 mod leaving;
+pub mod visit;
 
 use self::leaving::*;
 use crate::beside::Left;
@@ -228,7 +229,7 @@ pub const WRITTEN: [Named<Written>; 18] = [
 /// What is left by a call for the dearest files. A program that does not look at an output's length is found out wherever one is that is
 /// content with room for its file.
 pub const LEAVING: [Named<Leaving>; 16] = [
-    ("21 ahead of 1", numbers_first),
+    ("21 ahead of 1", inputs_first),
     ("room for the part's words accepted", |call| content(call, 0)),
     ("room for the path's words accepted", |call| content(call, 1)),
     ("any working buffer accepted", |call| content(call, 2)),
@@ -426,7 +427,7 @@ fn ors_put_off(ranges: usize, most: usize) -> Vec<u32> {
     [vec![range(0, 4095); before], behind, vec![OR; before - 1], vec![STAR]].concat()
 }
 
-impl Numbered<3> for InRooms {
+impl Buffered<3> for InRooms {
     const LEAST: Rooms = LEAST_ROOMS;
 
     fn lengths(&self) -> Rooms {

@@ -1,6 +1,6 @@
 //! Calls written in hexadecimal words, as the documents have them, and what the library answers.
 
-use crate::beside::{answer, hex, Call};
+use crate::beside::{answer, answers, hex, Call, Visit};
 use crate::evaluation::dearest::dearest_part;
 use crate::evaluation::groups::{Groups, OURS};
 use crate::evaluation::words::bytes_of;
@@ -28,9 +28,18 @@ pub fn made(call: &Call) -> (u32, Vec<u32>) {
     made_in(call, call.least_room())
 }
 
-/// The same in these buffers. A call without groups must give it with ours too.
+/// The same in these buffers. A call without groups must give it with ours too, and a first reply in a visit for its path alone.
 pub fn made_in(call: &Call, room: Room) -> (u32, Vec<u32>) {
-    let made = |call: &Call| answer(&call.check(&mut Random::new(1, "written", 0), room));
+    let random = &mut Random::new(1, "written", 0);
+    let rooms = [room.out, room.out, room.out, room.out, room.work];
+    let mut made = |call: &Call| {
+        let given = answer(&call.check(random, room));
+        if let Some(visit) = Visit::of(call) {
+            let (numbers, files) = answers(&visit.check(random, rooms));
+            assert_eq!((numbers[0], &files[0]), (given.0, &given.1), "{visit:x?}");
+        }
+        given
+    };
     let given = made(call);
     if let Some((None, _)) = call.groups_and_path() {
         assert_eq!(made(&grouped(call, &bytes_of(&OURS))), given, "{call:x?} with our groups");

@@ -1,16 +1,20 @@
 //! Random and damaged inputs for every call, by the library and by the evaluation; every check of the documents must have refused some, and
 //! every mistake in reading stopped nodes and labels outside a range, in counting operands, in loading groups, about nodes that are no doors,
-//! about the dearest files and about plants that are drawn must have been found out by some.
+//! about several paths in one visit, about the dearest files and about plants that are drawn must have been found out by some.
 
 use mowqachi_tests::beside::{check_dearest, check_generate};
+use mowqachi_tests::evaluation::dearest::LEAST_ROOMS;
 use mowqachi_tests::evaluation::generator::LEAST_ROOM;
+use mowqachi_tests::evaluation::visit;
 use mowqachi_tests::evaluation::words::Refusal;
-use mowqachi_tests::finding::{found_out_by_call, found_out_by_counts, found_out_by_source};
-use mowqachi_tests::generate::calls::{call, room, room_from};
-use mowqachi_tests::generate::counts::{counts, rooms};
+use mowqachi_tests::finding::*;
+use mowqachi_tests::generate::calls::{call, room, room_from, rooms};
+use mowqachi_tests::generate::counts::counts;
 use mowqachi_tests::generate::sources::source;
+use mowqachi_tests::generate::visits;
 use mowqachi_tests::meeting::meet;
 use mowqachi_tests::mistakes::generator::in_drawn_plants;
+use mowqachi_tests::mistakes::visit::in_visits;
 use mowqachi_tests::mistakes::*;
 use mowqachi_tests::random::{cases, Random};
 
@@ -19,6 +23,7 @@ type Checks = &'static [(u32, &'static str)];
 const SIZE: Checks = &[(2, "no words"), (2, "not in fours"), (2, "over the limit")];
 const HEADER: Checks = &[(3, "header kind"), (3, "header zero bit")];
 const NO_SITE: Checks = &[(3, "header site unused"), (4, "length wrong")];
+const IN_BUNDLE: Checks = &[(2, "over the limit"), (3, "header site unused")];
 const NO_N: Checks = &[(3, "header n unused"), (4, "length wrong")];
 const PART: Checks = &[
     (5, "neither node nor edge"),
@@ -68,6 +73,14 @@ const BUNDLE: Checks = &[
     (12, "different n"),
     (13, "node in two files"),
 ];
+const BUNDLE_OF_PATHS: Checks = &[
+    (17, "no words"),
+    (17, "not in fours"),
+    (17, "over the limit"),
+    (17, "length 0"),
+    (17, "length past the end"),
+    (17, "too many files"),
+];
 const FIRST: Checks = &[
     (5, "neither door, row nor reach word"),
     (5, "door zero bit"),
@@ -110,6 +123,17 @@ const IN_PATH: &[Checks] = &[SIZE, HEADER, NO_SITE, PATH];
 const IN_CALLS: &[Checks] = &[SIZE, HEADER, NO_SITE, CALLS];
 const OLD_SEARCH: Inputs = &[("whole", IN_WHOLE), ("path", IN_PATH)];
 const FIRST_REPLY: Inputs = &[("part", IN_PART), ("path", IN_PATH), ("result", &[RESULT])];
+const FOUR_REPLIES: Inputs = &[
+    ("buffers, output 1", &[ROOM]),
+    ("buffers, output 2", &[ROOM_BESIDE]),
+    ("buffers, output 3", &[ROOM_BESIDE]),
+    ("buffers, output 4", &[ROOM_BESIDE]),
+    ("part", IN_PART),
+    ("paths", &[BUNDLE_OF_PATHS]),
+    ("path", &[HEADER, IN_BUNDLE, PATH]),
+    ("result", &[RESULT]),
+];
+const GROUPS_TOO: Inputs = &[("groups", &[EIGHT])];
 const SECOND_REPLY: Inputs = &[("part", IN_PART), ("path", IN_PATH), ("call list", IN_CALLS)];
 
 /// The mistakes in reading these inputs.
@@ -119,9 +143,10 @@ fn mistakes(inputs: Inputs) -> Vec<&'static str> {
     let in_bundles = names(&STRAYS, |_| has(&["first bundle"]));
     let in_files = if has(&["counts"]) { in_dearest_files() } else { vec![] };
     let in_plants = if has(&["nodes and edges"]) { in_drawn_plants() } else { vec![] };
+    let in_visits = if has(&["paths"]) { in_visits(groups) } else { vec![] };
     let in_words = [names(&STOPPED, |_| nodes), names(&OUTSIDE, |_| path), names(&WAITING, |_| path)];
     let in_groups = [names(&GROUPS, |_| groups), names(&LOADED, |_| groups), names(&PLACES, |_| groups)];
-    [&in_words[..], &in_groups, &[in_bundles, in_files, in_plants]].concat().concat()
+    [&in_words[..], &in_groups, &[in_bundles, in_files, in_plants, in_visits]].concat().concat()
 }
 
 fn named(refusal: Option<&Refusal>) -> String {
@@ -138,14 +163,15 @@ fn owed(inputs: Inputs) -> Vec<String> {
     checks.chain(mistakes).chain([named(None)]).collect()
 }
 
-/// The mistakes that a call finds out, and why it is refused, if it is.
-type Met = (Vec<&'static str>, Option<Refusal>);
+/// The mistakes that a call finds out, and why it, or each path of a visit, is refused, if it is.
+type Met = (Vec<&'static str>, Vec<Option<Refusal>>);
 
 /// Makes this share of the cases, and goes on for a while if something has not been met.
 fn share(name: &'static str, inputs: Inputs, make: impl Fn(&mut Random) -> Met) {
     meet(name, [cases() * 8 / 100, 50_000], owed(inputs), |random| {
-        let (found_out, refusal) = make(random);
-        found_out.into_iter().map(str::to_string).chain([named(refusal.as_ref())]).collect()
+        let (found_out, refusals) = make(random);
+        let refusals = refusals.iter().map(|refusal| named(refusal.as_ref()));
+        found_out.into_iter().map(str::to_string).chain(refusals).collect()
     });
 }
 
@@ -154,13 +180,23 @@ fn run(name: &'static str, inputs: Inputs) {
         let call = call(random, name);
         let room = room(random, &call);
         let outcome = call.check(random, room);
-        (found_out_by_call(&call, room, &outcome), outcome.err())
+        (found_out_by_call(&call, room, &outcome), vec![outcome.err()])
     });
 }
 
 /// The same with the groups that the call is handed.
 fn run_grouped(name: &'static str, inputs: Inputs) {
-    run(name, &[inputs, &[("groups", &[EIGHT])]].concat());
+    run(name, &[inputs, GROUPS_TOO].concat());
+}
+
+fn run_visits(name: &'static str, inputs: Inputs, grouped: bool) {
+    share(name, inputs, |random| {
+        let (visit, rooms) = (visits::visit(random, grouped), rooms(random, visit::LEAST_ROOMS));
+        let visited = visit.check(random, rooms);
+        let found_out = found_out_by_visit(&visit, rooms, &visited);
+        let refusals = visited.map(|outcomes| outcomes.into_iter().map(Result::err).collect());
+        (found_out, refusals.unwrap_or_else(|refusal| vec![Some(refusal)]))
+    });
 }
 
 #[test]
@@ -189,6 +225,16 @@ fn first_reply_grouped() {
 }
 
 #[test]
+fn four_replies() {
+    run_visits("four replies", FOUR_REPLIES, false);
+}
+
+#[test]
+fn four_replies_grouped() {
+    run_visits("four replies grouped", &[FOUR_REPLIES, GROUPS_TOO].concat(), true);
+}
+
+#[test]
 fn call_list() {
     run("call list", &[("first bundle", &[SIZE, HEADER, BUNDLE, FIRST]), ("result", &[RESULT])]);
 }
@@ -212,9 +258,9 @@ fn join() {
 fn dearest() {
     let buffers = [("part's buffers", &[ROOM][..]), ("path's buffers", &[ROOM_BESIDE])];
     share("dearest", &[&buffers[..], &[("counts", &[NUMBERS])]].concat(), |random| {
-        let (counts, rooms) = (counts(random), rooms(random));
+        let (counts, rooms) = (counts(random), rooms(random, LEAST_ROOMS));
         let outcome = check_dearest(random, counts, rooms);
-        (found_out_by_counts(counts, rooms, &outcome), outcome.err())
+        (found_out_by_counts(counts, rooms, &outcome), vec![outcome.err()])
     });
 }
 
@@ -223,6 +269,6 @@ fn generate() {
     share("generate", &[("buffers", &[ROOM]), ("nodes and edges", &[SIZES])], |random| {
         let (source, room) = (source(random), room_from(random, LEAST_ROOM));
         let outcome = check_generate(random, &source, room);
-        (found_out_by_source(&source, room, &outcome), outcome.err())
+        (found_out_by_source(&source, room, &outcome), vec![outcome.err()])
     });
 }

@@ -214,7 +214,7 @@ fn same_with_ours(name: &'static str, numbers: &[u32]) {
         let call = call(random, name).with(None).expect("it reads a path");
         let room = any_room(random, &call);
         let left = call.leaves_as(&grouped(&call, &bytes_of(&OURS)), random, room);
-        vec![named(&left.number)]
+        vec![named(&left.number())]
     });
 }
 

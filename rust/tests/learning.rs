@@ -165,7 +165,7 @@ fn same_replies(stream: &'static str, second: bool, numbers: &[u32]) {
         }
         let room = some_room(random, &call);
         let [one, other] = over_both(&call, &two);
-        let number = one.leaves_as(&other, random, room).number;
+        let number = one.leaves_as(&other, random, room).number();
         let mut met = names(&SORTS, |sort| number == 0 && sort(&two));
         if number == 0 && two.iter().all(|part| part.words().len() < 1000) {
             met.extend(told_apart(&call, &two, room));
@@ -252,7 +252,7 @@ fn a_call_of_an_unreached_node_may_show() {
         let also = (!nodes.is_empty()).then(|| random.pick(&nodes));
         let calls = calls_over(random, &two[0], also, &asked.2);
         let call = second_reply_of(random, &asked, &calls, 0);
-        let numbers = over_both(&call, &two).map(|call| call.leaves(random, call.least_room()).number);
+        let numbers = over_both(&call, &two).map(|call| call.leaves(random, call.least_room()).number());
         match (names_an_unreached(&call, &two), numbers) {
             (true, [14, 0] | [0, 14]) => vec![owed[0]],
             (true, [14, 14]) => vec![owed[1]],

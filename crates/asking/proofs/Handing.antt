@@ -1,6 +1,6 @@
 -- What a call hands on, by what it leaves.
 use mathlib.Core.Path.{_≡_, refl, sym, ap, _∙_}
-use mathlib.Core.Logic.{_⊎_, inl, inr}
+use mathlib.Core.Logic.{inl, inr}
 use mathlib.Core.List.{List}
 use Prim.Native.Nat.{ℕ, zero, suc, _*_}
 use native.Mathlib.Omega.{arith}
@@ -10,7 +10,8 @@ use Rattle.files.specs.Word.{words}
 use Rattle.files.specs.Field.{sizeOf}
 use Rattle.files.specs.Outcome.{Outcome, Left, left, leaves}
 use Rattle.bundles.specs.declared.bundle.Trip.{Trip}
-use Rattle.demands.specs.Question.{Call, Asking, stopped, going, call, host, fileIn, _>>=_}
+use Rattle.path_bundles.specs.Split.{fileIn}
+use Rattle.demands.specs.Question.{Call, Asking, stopped, going, call, host, _>>=_}
 use Rattle.trips.specs.Calls.{siteCall, hubCall}
 use Rattle.asking.specs.Run.{Said, told, handed, said, buffers, siteName, hubName, siteAsked, hubAsked}
 

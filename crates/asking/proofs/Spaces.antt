@@ -1,21 +1,15 @@
 -- Room in a bundle, and the bytes at its front.
-use mathlib.Core.Path.{_≡_, sym, ap, _∙_}
+use mathlib.Core.Path.{_≡_, ap, _∙_}
 use mathlib.Core.List.{List, _++_}
 use Prim.Native.Nat.{ℕ, _+_, _-_, _*_, _^_, _≤_, _<_}
 use native.Mathlib.Omega.{arith}
 use borrow.Rule.Slice.PartMut.{midOf, postOf, putMid, mid-len}
-use lib.ListN.{length, take, drop, getD}
-use lib.Seq.{take-all, take-append-add, take-append-le, length-take-le}
+use lib.ListN.{length, take, drop}
+use lib.Seq.{take-append-add, take-append-le, length-take-le}
 use Rattle.sets.specs.States.{statesOf, hasState, Rest}
 use Rattle.sets.proofs.Members.{members-length, states-step}
-use Rattle.files.specs.Word.{words}
-use Rattle.files.specs.Field.{sizeOf}
-use Rattle.demands.specs.Question.{fileIn}
+use Rattle.path_bundles.specs.Split.{fileIn}
 use Rattle.asking.specs.Run.{slot, slots, partIn}
-
--- a header that says more than there is hands on all
-pub file-all : (out : List ℕ) → length out ≤ 4 * sizeOf (getD (words out) 0 0) → out ≡ fileIn out
-file-all out h = sym (take-all _ out h)
 
 -- behind `end` bytes of a bundle there is room for a reply of each site that is left
 pub record Space (bundle₀ work₀ bundle work : List ℕ) (end left : ℕ) : Type 0 where

@@ -6,8 +6,9 @@ use lib.ListN.{take, drop}
 use Rattle.sets.specs.States.{statesOf}
 use Rattle.bundles.specs.declared.bundle.Trip.{Trip}
 use Rattle.bundles.specs.declared.bundle.Trip.the-variants.{First, Second}
+use Rattle.path_bundles.specs.Split.{fileIn}
 use Rattle.demands.specs.Grouped.{ours}
-use Rattle.demands.specs.Question.{Buffers, Room, Call, Asking, stopped, going, first, calls, second, join, fileIn, call, each, ask, _>>=_}
+use Rattle.demands.specs.Question.{Buffers, Room, Call, Asking, stopped, going, first, calls, second, join, call, each, ask, _>>=_}
 use Rattle.trips.specs.Calls.{siteCall, hubCall}
 
 -- the number of a refusal, or bytes that are handed on

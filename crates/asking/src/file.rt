@@ -1,26 +1,15 @@
 // The file that a call left in its output.
-use files::field::size;
-use files::word::word_at;
 use hex::lines::print_words;
+use path_bundles::split::file_in;
 ghost use mathlib.Core.Path.{_≡_};
 ghost use Prim.Native.Nat.{_≤_};
 ghost use lib.ListN.{length};
-ghost use Rattle.demands.specs.Question.{fileIn};
 ghost use Rattle.asking.specs.Run.{told, handed};
 
 // A call's or a trip's number and, where it is 0, the bytes of its files at the front of the output.
 pub struct Told {
     pub number: u32,
     pub end: usize,
-}
-
-// The file at the front, at the length that its header says.
-pub fn file_in(out: &[u8]) -> &[u8]
-    ensures is { λ r. ⌜ now r ≡ fileIn (now (out .entry)) ⌝ }
-    ensures within { λ r. ⌜ length (now r) ≤ length (now (out .entry)) ⌝ }
-{
-    let n = 4 * (size(word_at(out, 0)) as usize);
-    if n <= out.len() { &out[..n] } else { out }
 }
 
 // Prints the file that a call left, if it gave 0.

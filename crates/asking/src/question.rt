@@ -2,11 +2,11 @@
 use crate::calls::hub_file;
 use crate::calls::site_file;
 use crate::file::Told;
-use crate::file::file_in;
 use crate::file::tell;
 use bundles::bundle::Trip;
 use files::limits::REPLY_WORDS;
 use mowqachi::mowqachi_cut;
+use path_bundles::split::file_in;
 use sets::states::lowest;
 use sets::states::without_lowest;
 ghost use mathlib.Core.Path.{_≡_};

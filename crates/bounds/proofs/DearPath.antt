@@ -109,7 +109,7 @@ star-next e o (suc q) p h k l =
 star-steps : (e : Expr) → Open e → (q p : ℕ) → q ≤ count e → 1 ≤ p → p ≤ count e → Passes (step holds (star e) q 0 p)
 star-steps e o q zero h k l = absurd (omega arith)
 star-steps e o q (suc p) h k l = both (next (star e) q (suc p)) (holds (getD (letters e) p 0) 0) (star-next e o q (suc p) h k l)
-    (rw (o .full (getD (letters e) p 0) (at-mem (letters e) p (omega (arith, length-letters e)))) tt)
+    (rw (o .full (getD (letters e) p 0) (at-mem 0 (letters e) p (omega (arith, length-letters e)))) tt)
 
 pub path-steps : {D T n : ℕ} (c : Counts D T n) (q p : ℕ) → q ≤ n → 1 ≤ p → p ≤ n → Passes (step holds (exprOf (drop 1 (dearPath n))) q 0 p)
 path-steps {n = n} c q p h k l =

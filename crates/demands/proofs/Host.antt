@@ -16,7 +16,8 @@ use Rattle.files.proofs.Files.{Made}
 use Rattle.hub_calls.specs.CallList.{callListCall}
 use Rattle.hub_join.specs.Join.{joinCall}
 use Rattle.demands.specs.Grouped.{Groups, firstCall, secondCall}
-use Rattle.demands.specs.Question.{Buffers, Room, Call, first, calls, second, join, Asking, stopped, going, _>>=_, fileIn, host, call, each, Answer, ask}
+use Rattle.path_bundles.specs.Split.{fileIn}
+use Rattle.demands.specs.Question.{Buffers, Room, Call, first, calls, second, join, Asking, stopped, going, _>>=_, host, call, each, Answer, ask}
 
 -- a file whose header says its length
 pub record Sized (f : List ℕ) : Type 0 where

@@ -1,4 +1,3 @@
-pub mod Numbers
 pub mod Comes
 pub mod LeftOut
 pub mod OldSearch
@@ -9,6 +8,5 @@ pub mod Grouping
 pub mod Accepts
 pub mod PlantOf
 pub mod Cutter
-pub mod Demand1
 pub mod Owed
 pub mod Demand

@@ -2,5 +2,4 @@ pub mod Plant
 pub mod PlantOf
 pub mod Grouped
 pub mod Question
-pub mod Demand1
 pub mod Demand

@@ -1,11 +1,9 @@
 -- Believed. The whole question as the host asks it: the calls one after another, each file handed on at its length, the first refusal ends it.
 -- Document 01, "The whole question". Everything here runs on bytes and on what the calls leave.
-use Prim.Native.Nat.{ℕ, zero, suc, _*_}
+use Prim.Native.Nat.{ℕ, zero, suc}
 use mathlib.Core.List.{List, [], _∷_, flatten}
-use lib.ListN.{take, getD}
-use Rattle.files.specs.Word.{words}
-use Rattle.files.specs.Field.{sizeOf}
 use Rattle.files.specs.Outcome.{Outcome, Left, leaves}
+use Rattle.path_bundles.specs.Split.{fileIn}
 use Rattle.hub_calls.specs.CallList.{callListCall}
 use Rattle.hub_join.specs.Join.{joinCall}
 use Rattle.demands.specs.Grouped.{Groups, firstCall, secondCall}
@@ -39,11 +37,7 @@ abbrev pub _>>=_ : {A B : Type 0} → Asking A → (A → Asking B) → Asking B
 stopped by k >>= f = stopped by k
 going a >>= f = f a
 
--- the file at the front of an output, at the length that its header says
-abbrev pub fileIn : List ℕ → List ℕ
-fileIn output = take (4 * sizeOf (getD (words output) 0 0)) output
-
--- a number that is not 0 ends the question; else the file is handed on
+-- a number that is not 0 ends the question; else the file is handed on, at the length that its header says
 abbrev pub host : Call → ℕ → List ℕ → Asking (List ℕ)
 host by zero output = going (fileIn output)
 host by (suc k) output = stopped by (suc k)

@@ -23,7 +23,7 @@ use Rattle.files.proofs.Words.{words-length}
 pub groups-ranges : (s : List ℕ) → groupsCheck s ≡ 0 → Ranges (words s)
 groups-ranges s h =
     let k = simp checks at h in
-    record { each = λ g l. all-iff isRange (words s) .0 (k .1) (getD (words s) g 0) (at-mem (words s) g (omega (arith, words-length s, k .0))) }
+    record { each = λ g l. all-iff isRange (words s) .0 (k .1) (getD (words s) g 0) (at-mem 0 (words s) g (omega (arith, words-length s, k .0))) }
 
 pub ours-ranges : Ranges ourGroups
 ours-ranges = groups-ranges (bytesOf ourGroups) refl

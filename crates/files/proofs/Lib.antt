@@ -17,3 +17,4 @@ pub mod Replies
 pub mod Rows
 pub mod Files
 pub mod Bundles
+pub mod Numbers

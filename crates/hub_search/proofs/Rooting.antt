@@ -51,7 +51,7 @@ module _ (ws : List ℕ) (k : ℕ) (one : length (roots ws) ≡ 1) (f : FirstTha
   root = nodeOf (getD ws k 0)
 
   root-mem : Mem root (roots ws)
-  root-mem = map-filter-iff nodeOf isRootWord root ws .1 (getD ws k 0, at-mem ws k (at-within isRootWord refl ws k root-word), passed root-word, refl)
+  root-mem = map-filter-iff nodeOf isRootWord root ws .1 (getD ws k 0, at-mem 0 ws k (at-within isRootWord refl ws k root-word), passed root-word, refl)
 
   pub root-entered : {d : ℕ} {w w′ : List ℕ} → DoorsOnce ws → Entered ws d w w′ k 0 → PairsEntered ws d (Placed ws (IsRoot ws)) w w′
   root-entered once g =

@@ -37,6 +37,11 @@ use Rattle.first_replies.specs.FirstReply.{reported, rowWords, doorWords, first
 use Rattle.first_replies.proofs.Reported.{reported-lists}
 use Rattle.site_first.specs.First.{firstReplyGroupedCall}
 use Rattle.site_first.proofs.FirstCalls.{first-ours}
+use Rattle.path_bundles.specs.Split.{split, splitCheck}
+use Rattle.path_bundles.specs.Packed.{leavesSeveral}
+use Rattle.visits.specs.Whole.{shortest}
+use Rattle.four_replies.specs.Four.{visitPaths, visit, fourRepliesGrouped, fourRepliesCall, fourRepliesGroupedCall}
+use Rattle.four_replies.proofs.Visits.{four-ours}
 use Rattle.site_second.specs.Second.{calledIn, againstCheck, secondReply, secondReplyGroupedCall}
 use Rattle.site_second.proofs.SecondReplies.{called-iff, second-is}
 use Rattle.site_second.proofs.SecondCalls.{second-ours}
@@ -181,5 +186,15 @@ module _ (part part′ : List ℕ) (t : TwoParts part part′) where
       sym (second-ours out work part path calls) ∙ second-grouped (bytesOf ourGroups) path calls i j out work ∙ second-ours out work part′ path calls
   second-either (own bytes) path calls i j out work = second-grouped bytes path calls i j out work
 
+  -- both parts are accepted, so the whole has the same number; and each path the same reply
+  visit-grouped : (groups paths ns : List ℕ) (m : ℕ) → fourRepliesGroupedCall ns m part groups paths ≡ fourRepliesGroupedCall ns m part′ groups paths
+  unfolding fourRepliesGrouped
+  visit-grouped groups paths ns m = rw (t .sized, t .sized′, t .read, t .read′)
+      (λ i. leavesSeveral (visit (roomCheck replyWords (shortest ns) m then groupsCheck groups then splitCheck visitPaths paths)
+      (λ n path. first-grouped groups path n m i) ns (split visitPaths paths)) ns m)
+
+  visit-plain : (paths ns : List ℕ) (m : ℕ) → fourRepliesCall ns m part paths ≡ fourRepliesCall ns m part′ paths
+  visit-plain paths ns m = rw (← four-ours ns m part paths, ← four-ours ns m part′ paths) (visit-grouped (bytesOf ourGroups) paths ns m)
+
 pub learning : Learning
-learning = record { first = first-either; second = second-either }
+learning = record { first = first-either; second = second-either; visit = visit-plain; visit-grouped = visit-grouped }

@@ -1,9 +1,12 @@
 // The calls, under the names that the C host uses. Each has no precondition, and its contract is one equation: what it leaves in number,
 // outputs, lent number and working buffer is what the definition of document 01 or 02 gives. Demand 3 (demands/proofs/Demand.antt) is about these outcomes.
 ghost use mathlib.Core.Path.{_≡_};
+ghost use mathlib.Core.List.{[], _∷_};
 ghost use lib.ListN.{length};
 ghost use Rattle.files.specs.Outcome.{left, leaves, leftLent, leavesLent};
+ghost use Rattle.path_bundles.specs.Packed.{leftSeveral};
 ghost use Rattle.site_first.specs.First.{firstReplyCall, firstReplyGroupedCall};
+ghost use Rattle.four_replies.specs.Four.{fourRepliesCall, fourRepliesGroupedCall};
 ghost use Rattle.site_second.specs.Second.{secondReplyCall, secondReplyGroupedCall};
 ghost use Rattle.hub_calls.specs.CallList.{callListCall};
 ghost use Rattle.hub_join.specs.Join.{joinCall};
@@ -13,6 +16,8 @@ ghost use Rattle.dearest.specs.Dearest.{leftBoth, dearestCall};
 ghost use Rattle.generator.specs.Generate.{spent, generateCall};
 use cutter::call::cut;
 use dearest::call::dearest;
+use four_replies::call::four_replies;
+use four_replies::call::four_replies_grouped;
 use generator::call::generate;
 use hub_calls::call::call_list;
 use hub_join::call::join;
@@ -173,4 +178,39 @@ pub extern "C" fn mowqachi_generate(
         (now (state .entry)) (spent (now (state .entry)) nodes edges) (length (now (out .entry))) (length (now (work .entry))) ⌝ }
 {
     generate(state, nodes, edges, out, work)
+}
+
+#[no_mangle]
+pub extern "C" fn mowqachi_four_replies(
+    part: &[u8],
+    paths: &[u8],
+    out1: &mut [u8],
+    out2: &mut [u8],
+    out3: &mut [u8],
+    out4: &mut [u8],
+    work: &mut [u8],
+) -> u32
+    ensures { λ r. ⌜ leftSeveral r (now (out1 .exit) ∷ now (out2 .exit) ∷ now (out3 .exit) ∷ now (out4 .exit) ∷ []) (now (work .exit))
+        ≡ fourRepliesCall (length (now (out1 .entry)) ∷ length (now (out2 .entry)) ∷ length (now (out3 .entry)) ∷ length (now (out4 .entry)) ∷ [])
+        (length (now (work .entry))) (now (part .entry)) (now (paths .entry)) ⌝ }
+{
+    four_replies(part, paths, out1, out2, out3, out4, work)
+}
+
+#[no_mangle]
+pub extern "C" fn mowqachi_four_replies_grouped(
+    part: &[u8],
+    groups: &[u8],
+    paths: &[u8],
+    out1: &mut [u8],
+    out2: &mut [u8],
+    out3: &mut [u8],
+    out4: &mut [u8],
+    work: &mut [u8],
+) -> u32
+    ensures { λ r. ⌜ leftSeveral r (now (out1 .exit) ∷ now (out2 .exit) ∷ now (out3 .exit) ∷ now (out4 .exit) ∷ []) (now (work .exit))
+        ≡ fourRepliesGroupedCall (length (now (out1 .entry)) ∷ length (now (out2 .entry)) ∷ length (now (out3 .entry)) ∷ length (now (out4 .entry)) ∷ [])
+        (length (now (work .entry))) (now (part .entry)) (now (groups .entry)) (now (paths .entry)) ⌝ }
+{
+    four_replies_grouped(part, groups, paths, out1, out2, out3, out4, work)
 }

@@ -57,10 +57,10 @@ pub ruleset checking = (checked, check-refuses, check-passes, check-also, check-
 room-is : (limit out work : ℕ) {l m : ℕ} → roomCheck limit out work ≡ 0 → l ≡ out → m ≡ work → RoomFor limit l m
 room-is limit out work e p q = let r = simp checks at e in record { holds = omega (arith, r .0); works = omega (arith, r .1) }
 
-read-is : (most : ℕ) (s : List ℕ) {c : ℕ} → sizeCheck most s ≡ 0 → c ≡ 0 → InputRead most s c
+pub read-is : (most : ℕ) (s : List ℕ) {c : ℕ} → sizeCheck most s ≡ 0 → c ≡ 0 → InputRead most s c
 read-is most s e z =
     let k = simp checks at e in
-    record { some = omega (arith, words-length s, k .0 .0, k .0 .1); few = omega (arith, words-length s, k .1); size = k .1; read = z }
+    record { some = omega (arith, words-length s, k .0 .0, k .0 .1); few = omega (arith, words-length s, k .1); size = k .1; sized = e; read = z }
 
 -- for a callee within `check`: the working buffer is long enough, an input is accepted
 pub works : (limit out work : ℕ) {n l k : ℕ} → n ≡ 0 → n ≡ roomCheck limit out work → l ≡ work → k ≤ workBytes → k ≤ l

@@ -37,6 +37,7 @@ pub record InputRead (most : ℕ) (s : List ℕ) (c : ℕ) : Type 0 where
   pub some : 0 < length (words s)
   pub few : length (words s) ≤ most
   pub size : length s / 4 ≤ most
+  pub sized : sizeCheck most s ≡ 0
   pub read : c ≡ 0
 
 -- what the checks of a call say when all pass

@@ -65,7 +65,7 @@ module _ (ws : List ℕ) (t : ℕ) (w : List ℕ) (laid : Laid ws t w) where
   word-behind zero e = absurd (clash e (header-edge ws (laid .accepted)))
   word-behind (suc x) e =
       let l = edge-below ws (suc x) e in
-      subst (λ y. Mem y (drop 1 ws)) (getD-drop 1 ws x 0 ∙ ap (λ y. getD ws y 0) (omega arith)) (at-mem (drop 1 ws) x (omega (arith, length-drop 1 ws)))
+      subst (λ y. Mem y (drop 1 ws)) (getD-drop 1 ws x 0 ∙ ap (λ y. getD ws y 0) (omega arith)) (at-mem 0 (drop 1 ws) x (omega (arith, length-drop 1 ws)))
 
   target-outside : (k : ℕ) → k < t → Mem (number ws (placeOf w k)) (outside (drop 1 ws))
   unfolding number edgeAt

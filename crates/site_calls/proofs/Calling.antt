@@ -41,14 +41,14 @@ called-iff part calls c =
 rise-at : (l : List ℕ) (i j : ℕ) → Ascending l → i < j → j < length l → getD l i 0 < getD l j 0
 rise-at [] i j a h b = absurd (omega arith)
 rise-at (x ∷ l) i zero a h b = absurd (omega arith)
-rise-at (x ∷ l) zero (suc j) a h b = a .0 (getD l j 0) (at-mem l j (omega arith))
+rise-at (x ∷ l) zero (suc j) a h b = a .0 (getD l j 0) (at-mem 0 l j (omega arith))
 rise-at (x ∷ l) (suc i) (suc j) a h b = rise-at l i j (a .1) (omega arith) (omega arith)
 
 call-mem : (cs : List ℕ) (k : ℕ) → 1 ≤ k → k < length cs → Mem (callAt cs k) (map pairOf (drop 1 cs))
 unfolding callAt
 call-mem [] k a b = absurd (omega arith)
 call-mem (h ∷ cs) zero a b = absurd (omega arith)
-call-mem (h ∷ cs) (suc k) a b = map-iff pairOf (pairOf (getD cs k 0)) cs .1 (getD cs k 0, at-mem cs k (omega arith), refl)
+call-mem (h ∷ cs) (suc k) a b = map-iff pairOf (pairOf (getD cs k 0)) cs .1 (getD cs k 0, at-mem 0 cs k (omega arith), refl)
 
 mem-call : (cs : List ℕ) (c : ℕ) → Mem c (map pairOf (drop 1 cs)) → (k : ℕ) × (1 ≤ k) × (k < length cs) × (callAt cs k ≡ c)
 unfolding callAt
@@ -68,8 +68,8 @@ calls-rise (w ∷ ws) c (suc k) zero a h b f = absurd (omega arith)
 calls-rise (w ∷ ws) c (suc k) (suc l) a h b f =
     let (p, s) = then-iff (headerCheck 11 false true (suc (length ws)) w) _ .0 c in
     let (asc, each) = ordered-iff (callCheck (labelsOf w)) 0 ws .0 s in
-    let i = simp checks at (each (getD ws k 0) (at-mem ws k (omega arith))) in
-    let j = simp checks at (each (getD ws l 0) (at-mem ws l (omega arith))) in
+    let i = simp checks at (each (getD ws k 0) (at-mem 0 ws k (omega arith))) in
+    let j = simp checks at (each (getD ws l 0) (at-mem 0 ws l (omega arith))) in
     let r = rise-at ws k l (asc .1) (omega arith) (omega arith) in
     omega (arith, holder-made 12 (getD ws k 0) (omega arith) (i .0 .0) (i .0 .1), holder-made 12 (getD ws l 0) f (j .0 .0) (j .0 .1))
 

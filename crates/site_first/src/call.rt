@@ -48,7 +48,7 @@ fn check(part: &[u8], groups: &[u8], path: &[u8], out: usize, work: usize) -> u3
 }
 
 // Writes the reply, as far as it fits. Gives 15 where it is over its limit, and only then.
-fn write(part: &[u8], groups: &[u8], path: &[u8], out: &mut [u8], work: &mut [u8]) -> u32
+pub fn write(part: &[u8], groups: &[u8], path: &[u8], out: &mut [u8], work: &mut [u8]) -> u32
     requires { ⌜ Passed replyWords (length (now out)) (length (now work))
         (input partWords (now part) (partCheck (words (now part))) ∷ also (groupsCheck (now groups)) ∷ input pathWords (now path) (pathCheck (words (now path))) ∷ []) ⌝ }
     ensures { λ r. ⌜ Filed replyWords (length (now (out .entry))) (firstReply (words (now (part .entry))) (loaded (words (now (groups .entry))) (words (now (path .entry))))) (now (out .exit)) r ⌝ }

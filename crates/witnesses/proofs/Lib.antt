@@ -11,3 +11,4 @@ pub mod CustomerGroups
 pub mod IdleLinks
 pub mod Growing
 pub mod Bench
+pub mod Visits

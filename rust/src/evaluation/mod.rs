@@ -1,8 +1,9 @@
 //! Document 01 evaluated, with labels outside a range (request 1), plants that are drawn (request 2), groups that a call is handed (request
-//! 3), the length of a first reply before each door (request 4), links that nobody walks (request 5), stopped nodes (request 7), eight
-//! operands waiting at most (request 9), which parts no reply tells apart and which plants are grown (request 12), and the dearest part and
-//! path (request 13): every call as a function from bytes, numbers and buffer lengths to a refusal or the result's words. It is written from
-//! the documents alone, for plainness and not for speed, and shares no method with the library where they leave a choice.
+//! 3), the length of a first reply before each door (request 4), links that nobody walks (request 5), several paths in one visit (request 6),
+//! stopped nodes (request 7), eight operands waiting at most (request 9), which parts no reply tells apart and which plants are grown (request
+//! 12), and the dearest part and path (request 13): every call as a function from bytes, numbers and buffer lengths to a refusal or the
+//! result's words. It is written from the documents alone, for plainness and not for speed, and shares no method with the library where they
+//! leave a choice.
 
 pub mod dearest;
 pub mod generator;
@@ -16,16 +17,18 @@ pub mod plant;
 pub mod relation;
 pub mod replies;
 pub mod states;
+pub mod visit;
 pub mod words;
 
 use self::dearest::{check_counts, dearest_files, Counts, Rooms};
 use self::generator::Source;
-use self::groups::read_groups;
+use self::groups::{read_groups, Groups};
 use self::hub::*;
 use self::part::*;
 use self::path::{read_path, Path};
 use self::plant::Plant;
 use self::replies::*;
+use self::visit::{split_paths, VISIT_PATHS};
 use self::words::*;
 
 pub type Outcome = Result<Vec<u32>, Refusal>;
@@ -35,6 +38,9 @@ pub type BothFiles = Result<[Vec<u32>; 2], Refusal>;
 
 /// That of a call that is lent a state: the result's words, and the state as it is given back. A refusal leaves the state as it was.
 pub type Generated = Result<(Vec<u32>, u32), Refusal>;
+
+/// That of a call for several paths: an outcome for each that there is, or a refusal of the whole.
+pub type Visited = Result<Vec<Outcome>, Refusal>;
 
 /// The lengths of the lent buffers, in bytes.
 #[derive(Clone, Copy, PartialEq, Eq, Debug)]
@@ -90,8 +96,30 @@ pub fn cut(whole: &[u8], cuts: &[u8], site: u32, room: Room) -> Outcome {
 pub fn first_reply(part: &[u8], groups: Option<&[u8]>, path: &[u8], room: Room) -> Outcome {
     check_room(room, FILE_LIMIT)?;
     let part = input("part", read_part(part))?;
-    let path = groups_and_path(groups, path)?;
-    check_result(first_reply_words(&part, &path), FILE_LIMIT)
+    let groups = input("groups", read_groups(groups))?;
+    first_reply_to(&part, &groups, path)
+}
+
+/// The path's checks, and then the reply and its 15.
+pub fn first_reply_to(part: &Part, groups: &Groups, path: &[u8]) -> Outcome {
+    let path = input("path", read_path(path, groups))?;
+    check_result(first_reply_words(part, &path), FILE_LIMIT)
+}
+
+/// The inputs under which number 1 of a visit is counted.
+const VISIT_BUFFERS: [&str; VISIT_PATHS] =
+    ["buffers, output 1", "buffers, output 2", "buffers, output 3", "buffers, output 4"];
+
+/// The first replies to up to four paths, each for an output of its own.
+pub fn four_replies(part: &[u8], groups: Option<&[u8]>, paths: &[u8], rooms: visit::Rooms) -> Visited {
+    let [outs @ .., work] = rooms;
+    for (out, name) in outs.into_iter().zip(VISIT_BUFFERS) {
+        input(name, check_room(Room { out, work }, FILE_LIMIT))?;
+    }
+    let part = input("part", read_part(part))?;
+    let groups = input("groups", read_groups(groups))?;
+    let files = input("paths", split_paths(paths, VISIT_PATHS))?;
+    Ok(files.into_iter().map(|path| first_reply_to(&part, &groups, path)).collect())
 }
 
 pub fn call_list(bundle: &[u8], room: Room) -> Outcome {

@@ -20,7 +20,7 @@ pub fn damages(random: &mut Random, inputs: usize) -> u32 {
     }
 }
 
-fn single(random: &mut Random, words: &[u32], limit: usize, damage: bool) -> Vec<u8> {
+pub fn single(random: &mut Random, words: &[u32], limit: usize, damage: bool) -> Vec<u8> {
     match damage {
         true => damage::damaged(random, words, limit),
         false => bytes_of(words),
@@ -68,17 +68,29 @@ fn cut(random: &mut Random) -> Call {
 /// A part, a path, and groups if they are asked for.
 pub type Asked = (Part, Option<Groups>, Vec<u32>);
 
+/// The same with any number of paths.
+pub type AskedAtOnce = (Part, Option<Groups>, Vec<Vec<u32>>);
+
+/// Makes a plant with links over an alphabet.
+type Planting = fn(&mut Random, &[u32]) -> Plant;
+
 /// A part of a random true cut of a plant, and a path and groups over the same labels.
-pub fn asked(random: &mut Random, plant: fn(&mut Random, &[u32]) -> Plant, grouped: bool) -> Asked {
+pub fn asked(random: &mut Random, plant: Planting, grouped: bool) -> Asked {
+    let (part, groups, paths) = asked_at_once(random, plant, grouped, 1);
+    (part, groups, paths.concat())
+}
+
+/// The same with so many paths.
+pub fn asked_at_once(random: &mut Random, plant: Planting, grouped: bool, count: usize) -> AskedAtOnce {
     let alphabet = path::alphabet(random);
     let plant = plant(random, &alphabet);
     let (sites, further) = (random.pick(&[1, 2, 2, 3, 4]), random.pick(&[0, 0, 0, 10, 100]));
     let parts = plant::true_cut(random, &plant, sites, further);
     let most = parts.iter().max_by_key(|part| part.nodes.len()).expect("a cut has parts");
     let part = if random.chance(70) { most.clone() } else { random.pick(&parts) };
-    let path = path::some_path(random, &alphabet);
-    let (groups, path) = groups::grouped(random, &alphabet, path, grouped);
-    (part, groups, path)
+    let paths = (0..count).map(|_| path::some_path(random, &alphabet)).collect();
+    let (groups, paths) = groups::grouped_paths(random, &alphabet, paths, grouped);
+    (part, groups, paths)
 }
 
 /// A door with links of label 0 to so many targets, the first of them `first`.
@@ -214,7 +226,7 @@ pub fn call(random: &mut Random, name: &str) -> Call {
 }
 
 /// A length of a buffer around a bound, mostly this itself.
-pub fn around(random: &mut Random, bound: usize) -> usize {
+fn around(random: &mut Random, bound: usize) -> usize {
     match random.below(8) {
         0 => 0,
         1 => bound - 1,
@@ -225,6 +237,19 @@ pub fn around(random: &mut Random, bound: usize) -> usize {
     }
 }
 
+/// Whether one of these buffers is shorter than the least one in its place.
+pub fn is_short(lengths: &[usize], least: &[usize]) -> bool {
+    lengths.iter().zip(least).any(|(length, least)| length < least)
+}
+
+/// The lengths of a call's buffers by the least ones: mostly these, else some around every bound.
+pub fn rooms<const N: usize>(random: &mut Random, least: [usize; N]) -> [usize; N] {
+    match random.chance(80) {
+        true => least,
+        false => least.map(|bound| around(random, bound)),
+    }
+}
+
 /// Buffers for a call: mostly the least ones, else some around every bound.
 pub fn room(random: &mut Random, call: &Call) -> Room {
     room_from(random, call.least_room())
@@ -232,10 +257,8 @@ pub fn room(random: &mut Random, call: &Call) -> Room {
 
 /// The same by the least ones.
 pub fn room_from(random: &mut Random, least: Room) -> Room {
-    match random.chance(80) {
-        true => least,
-        false => Room { out: around(random, least.out), work: around(random, least.work) },
-    }
+    let [out, work] = rooms(random, [least.out, least.work]);
+    Room { out, work }
 }
 
 /// Buffers for a call, or of any lengths up to somewhat more than it needs.

@@ -1,8 +1,7 @@
 //! Random counts of doors, outside targets and labels: around each line between accepted and refused ones, and such as wrap at 32 bits.
 
-use crate::evaluation::dearest::{Counts, Rooms, LEAST_ROOMS};
+use crate::evaluation::dearest::Counts;
 use crate::evaluation::words::FILE_LIMIT;
-use crate::generate::calls::around;
 use crate::random::Random;
 
 /// Any number of so many bits at most.
@@ -48,12 +47,4 @@ pub fn counts(random: &mut Random) -> Counts {
         _ => {}
     }
     counts
-}
-
-/// Buffers: mostly the least ones, else some around every bound.
-pub fn rooms(random: &mut Random) -> Rooms {
-    match random.chance(60) {
-        true => LEAST_ROOMS,
-        false => LEAST_ROOMS.map(|bound| around(random, bound)),
-    }
 }

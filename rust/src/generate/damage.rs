@@ -5,11 +5,16 @@ use crate::evaluation::words::*;
 use crate::generate::path::{group, outside, range};
 use crate::random::Random;
 
-/// Writes the true length into a file's header.
-fn mend(words: &mut [u32]) {
+/// Writes a length into a file's header.
+pub fn set_length(words: &mut [u32], length: usize) {
     if !words.is_empty() {
-        words[0] = words[0] & !0x3fff | words.len() as u32 & 0x3fff;
+        words[0] = words[0] & !0x3fff | length as u32 & 0x3fff;
     }
+}
+
+/// The true one.
+pub fn mend(words: &mut [u32]) {
+    set_length(words, words.len());
 }
 
 fn header_damage(random: &mut Random, header: &mut u32) {
@@ -172,7 +177,7 @@ fn damage_groups(random: &mut Random, words: &mut [u32]) {
 }
 
 /// Bytes of a damaged size, or no file at all.
-fn damage_bytes(random: &mut Random, bytes: &mut Vec<u8>, limit: usize) {
+pub fn damage_bytes(random: &mut Random, bytes: &mut Vec<u8>, limit: usize) {
     let length = bytes.len();
     match random.below(8) {
         0 => bytes.clear(),

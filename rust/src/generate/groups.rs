@@ -51,15 +51,27 @@ pub fn naming(random: &mut Random, mut path: Vec<u32>) -> Vec<u32> {
     path
 }
 
-/// Groups over the alphabet and the path with some of them named, or no groups and the path as it is.
+/// Groups over the alphabet and the paths with some of them named, or no groups and the paths as they are.
+pub fn grouped_paths(
+    random: &mut Random,
+    alphabet: &[u32],
+    paths: Vec<Vec<u32>>,
+    grouped: bool,
+) -> (Option<Groups>, Vec<Vec<u32>>) {
+    if !grouped {
+        return (None, paths);
+    }
+    let groups = groups(random, alphabet);
+    (Some(groups), paths.into_iter().map(|path| naming(random, path)).collect())
+}
+
+/// The same of one path.
 pub fn grouped(
     random: &mut Random,
     alphabet: &[u32],
     path: Vec<u32>,
     grouped: bool,
 ) -> (Option<Groups>, Vec<u32>) {
-    match grouped {
-        true => (Some(groups(random, alphabet)), naming(random, path)),
-        false => (None, path),
-    }
+    let (groups, paths) = grouped_paths(random, alphabet, vec![path], grouped);
+    (groups, paths.concat())
 }

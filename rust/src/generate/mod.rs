@@ -1,4 +1,4 @@
-//! Random files, counts, states, whole questions and damage.
+//! Random files, counts, states, visits, whole questions and damage.
 
 pub mod alike;
 pub mod bundle;
@@ -11,3 +11,4 @@ pub mod path;
 pub mod plant;
 pub mod question;
 pub mod sources;
+pub mod visits;

@@ -170,7 +170,7 @@ pub const DRAWING: [Named<Other>; 61] = [
 /// What is left by the call. A program that does not look at the output's length is found out wherever one is that is content with room for
 /// its file.
 pub const LEAVING: [Named<Leaving>; 14] = [
-    ("11 ahead of 1", numbers_first),
+    ("11 ahead of 1", inputs_first),
     ("room for the plant's words accepted", |call| content(call, 0)),
     ("any working buffer accepted", |call| content(call, 1)),
     ("an output of 16,384 bytes refused", |call| one_short(call, 0)),
@@ -183,7 +183,7 @@ pub const LEAVING: [Named<Leaving>; 14] = [
     ("the working buffer left past 32,768 bytes", |call| left_past_least(call, 1)),
     ("the state moved by a refusal under 1", |call| refused(call, 1, RIGHT.moved)),
     ("the state moved by a refusal under 11", |call| refused(call, 11, RIGHT.moved)),
-    ("the state set to 0 by a refusal", |call| refused(call, call.owed(call.lengths()).number, |_| 0)),
+    ("the state set to 0 by a refusal", |call| refused(call, call.owed(call.lengths()).number(), |_| 0)),
 ];
 
 /// The names of all mistakes about plants that are drawn.
@@ -394,7 +394,7 @@ fn within(count: u32, bounds: RangeInclusive<u32>) -> bool {
     bounds.contains(&count)
 }
 
-impl Numbered<2> for InRoom {
+impl Buffered<2> for InRoom {
     const LEAST: [usize; 2] = [LEAST_ROOM.out, LEAST_ROOM.work];
 
     fn lengths(&self) -> [usize; 2] {
@@ -413,7 +413,7 @@ impl Numbered<2> for InRoom {
 /// With another state after a refusal under this number.
 fn refused(call: &InRoom, number: u32, other: impl Fn(u32) -> u32) -> Left {
     let left = call.owed(call.lengths());
-    match left.number == number && number != 0 {
+    match left.number() == number && number != 0 {
         true => Left { state: Some(other(call.0.state)), ..left },
         false => left,
     }

@@ -1,18 +1,23 @@
 -- Believed. The user's demand 1. Any file, cut list, bundle, groups or counts, with buffers of any length, get their one result or a refusal under a
--- number of document 01 or 02, and a refusal leaves outputs and working buffer all zero, and a lent state unmoved. It is said of `leaves` of the calls' outcomes, and that is
--- what the calls leave, by their contracts (mowqachi/src/lib.rt). That a call ends and touches nothing else is what the check proves of every function.
-use Prim.Native.Nat.{ℕ, _*_, _≤_}
+-- number of document 01 or 02, and a refusal leaves outputs and working buffer all zero, and a lent state unmoved; that of one path of a visit, its
+-- own output. It is said of what the calls leave, by their contracts (mowqachi/src/lib.rt): `leaves` of their outcomes. That a call ends and touches
+-- nothing else is what the check proves of every function.
+use Prim.Native.Nat.{ℕ, _*_, _≤_, _<_}
 use mathlib.Core.Path.{_≡_}
 use mathlib.Core.Logic.{_⊎_}
 use mathlib.Core.List.{List, [], _∷_}
-use lib.ListN.{length, drop}
+use lib.ListN.{length, getD, drop}
 use Rattle.sets.specs.Sets.{Mem}
 use Rattle.files.specs.Word.{words}
 use Rattle.files.specs.Outcome.{Outcome, zeros, padded, left, leaves, leftLent, leavesLent}
 use Rattle.files.specs.Groups.{loaded}
+use Rattle.path_bundles.specs.Split.{split}
+use Rattle.path_bundles.specs.Packed.{LeftSeveral}
 use Rattle.expressions.specs.Labels.{exprOf}
 use Rattle.first_replies.specs.FirstReply.{IsFirstReply}
 use Rattle.site_first.specs.First.{firstReplyCall, firstReplyGroupedCall}
+use Rattle.four_replies.specs.Four.{visitPaths, fourRepliesCall, fourRepliesGroupedCall}
+use Rattle.four_replies.specs.Visit.{At}
 use Rattle.site_second.specs.Second.{IsSecondReply, secondReplyCall, secondReplyGroupedCall}
 use Rattle.hub_calls.specs.CallList.{IsCallList, callListCall}
 use Rattle.hub_join.specs.Join.{IsJoined, joinCall}
@@ -44,6 +49,21 @@ abbrev pub SettlesLent {ℓ} : List ℕ → ℕ → (List ℕ → Type ℓ) → 
 SettlesLent numbers limit Owed o kept given n m =
     ((k : ℕ) × Mem k numbers × (leavesLent o kept given n m ≡ leftLent kept (left k (zeros n) (zeros m))))
     ⊎ ((f : List ℕ) × Owed f × (length f ≤ limit) × (4 * limit ≤ n) × (leavesLent o kept given n m ≡ leftLent given (left 0 (padded n f) (zeros m))))
+
+-- and of a call that answers paths one by one, in outputs of ns bytes, and leaves l. A refusal of the whole: its number, one of `whole`, and zeros at
+-- every output. Or at every output one of two: a refusal of its path, under one of `numbers`, and zeros; or number 0, and a file that is owed, with
+-- zeros past it.
+abbrev pub SettlesEach : List ℕ → List ℕ → ℕ → (ℕ → List ℕ → Type 0) → LeftSeveral → List ℕ → ℕ → Type 0
+SettlesEach whole numbers limit Owed l ns m =
+    (((k : ℕ) × Mem k whole × ((i : ℕ) → i < length ns → At l i k (zeros (getD ns i 0))))
+    ⊎ ((i : ℕ) → i < length ns
+    → ((k : ℕ) × Mem k numbers × At l i k (zeros (getD ns i 0)))
+    ⊎ ((f : List ℕ) × Owed i f × (length f ≤ limit) × (4 * limit ≤ getD ns i 0) × At l i 0 (padded (getD ns i 0) f))))
+    × (length (l .outputs) ≡ length ns) × (l .work ≡ zeros m)
+
+-- what is owed at an output: what is owed to its path, and past the last path no words
+abbrev pub OwedAt : (List ℕ → List ℕ → Type 0) → List (List ℕ) → ℕ → List ℕ → Type 0
+OwedAt Owed paths i f = (i < length paths → Owed (getD paths i []) f) × (length paths ≤ i → f ≡ [])
 
 -- The numbers of each call, as the table of docs/CALLS.md has them
 abbrev pub oldSearchNumbers : List ℕ
@@ -70,6 +90,13 @@ dearestNumbers = 1 ∷ 21 ∷ []
 abbrev pub generateNumbers : List ℕ
 generateNumbers = 1 ∷ 11 ∷ []
 
+-- of a visit: those of the whole, and those of one of its paths. A path has no 4, as its length is where its file ends
+abbrev pub visitNumbers : List ℕ
+visitNumbers = 1 ∷ 2 ∷ 3 ∷ 4 ∷ 5 ∷ 6 ∷ 7 ∷ 17 ∷ []
+
+abbrev pub visitPathNumbers : List ℕ
+visitPathNumbers = 2 ∷ 3 ∷ 5 ∷ 9 ∷ 15 ∷ []
+
 -- a grouped call has those of the call without groups, and 16
 abbrev pub grouped : List ℕ → List ℕ
 grouped numbers = 16 ∷ numbers
@@ -77,7 +104,8 @@ grouped numbers = 16 ∷ numbers
 abbrev pub rows : List (List ℕ)
 rows =
     oldSearchNumbers ∷ cutNumbers ∷ firstReplyNumbers ∷ callListNumbers ∷ secondReplyNumbers ∷ joinNumbers
-    ∷ grouped oldSearchNumbers ∷ grouped firstReplyNumbers ∷ grouped secondReplyNumbers ∷ dearestNumbers ∷ generateNumbers ∷ []
+    ∷ grouped oldSearchNumbers ∷ grouped firstReplyNumbers ∷ grouped secondReplyNumbers ∷ dearestNumbers ∷ generateNumbers
+    ∷ visitNumbers ∷ visitPathNumbers ∷ grouped visitNumbers ∷ []
 
 -- Demand 1: for all bytes and all buffers. What a call owes is said in the documents' words, which one file at most meets (docs/DECISIONS.md, 68).
 pub record Demand1 : Type 1 where
@@ -98,5 +126,10 @@ pub record Demand1 : Type 1 where
   pub dearest : (D T n a b m : ℕ) → SettlesBoth dearestNumbers 4096 64 (dearPart D T) (dearPath n) (dearestCall a b m D T n) a b m
   pub generate : (s nodes edges n m : ℕ)
       → SettlesLent generateNumbers 4096 (λ f. f ≡ generated (drawn s) nodes edges) (generateCall n m s nodes edges) s (spent s nodes edges) n m
+  pub four-replies : (part paths ns : List ℕ) (m : ℕ)
+      → SettlesEach visitNumbers visitPathNumbers 4096 (OwedAt (λ path. IsFirstReply (words part) (words path)) (split visitPaths paths)) (fourRepliesCall ns m part paths) ns m
+  pub four-replies-grouped : (part groups paths ns : List ℕ) (m : ℕ)
+      → SettlesEach (grouped visitNumbers) visitPathNumbers 4096 (OwedAt (λ path. IsFirstReply (words part) (loaded (words groups) (words path))) (split visitPaths paths))
+      (fourRepliesGroupedCall ns m part groups paths) ns m
   -- the numbers are those of documents 01 and 02, and 0 is none of them: a call gives its result or is refused, and not both
   pub numbered : (row : List ℕ) → Mem row rows → (k : ℕ) → Mem k row → (1 ≤ k) × (k ≤ 21)

@@ -4,31 +4,33 @@ use mathlib.Core.Path.{_≡_, refl}
 use mathlib.Core.Logic.{_⊎_, inl, inr, ⊎-elim}
 use mathlib.Core.Bool.{Bool, true, false, cond, not}
 use mathlib.Core.List.{List, [], _∷_}
-use Prim.Native.Nat.{ℕ, zero, suc, _-_}
-use lib.Dec.{T}
-use lib.ListN.{length, take, drop}
+use Prim.Native.Nat.{ℕ, zero, suc, _-_, _≤_}
+use native.Mathlib.Omega.{arith}
+use borrow.Author.Tests.{eq-eqb}
+use lib.Dec.{T, eqb, leb}
+use lib.ListN.{length, getD, take, drop}
 use Rattle.sets.specs.Sets.{Mem, here, there, member, any}
 use Rattle.sets.proofs.Sets.{member-iff}
+use Rattle.sets.proofs.Tests.{le-iff}
 use Rattle.sets.proofs.Filter.{all-iff}
 use Rattle.files.specs.Field.{labelsOf, sizeOf}
 use Rattle.files.specs.Refuse.{_then_, _unless_, sizeCheck, headerCheck, fileCheck}
+use Rattle.files.specs.Outcome.{accepted, refused, outcome, leaves}
 use Rattle.files.specs.Scan.{scanWords, inOrder, scanOrdered}
 use Rattle.files.specs.Part.{partCheck, wholeCheck}
 use Rattle.files.specs.Part as part
 use Rattle.files.specs.declared.part.Seen.{Seen}
 use Rattle.files.specs.declared.reply.Seen.{Seen as ReplySeen}
 use Rattle.files.specs.Limits.{mostWaiting}
 use Rattle.files.specs.Path.{pathCheck}
 use Rattle.files.specs.Path as path
 use Rattle.files.specs.Groups.{groupsCheck}
 use Rattle.files.specs.Reply.{replyCheck}
 use Rattle.files.specs.Reply as reply
 use Rattle.files.specs.Calls.{callCheck, callsCheck}
 use Rattle.files.specs.Answers.{answerCheck, answersCheck}
 use Rattle.files.specs.Bundle.{filesCheck, firstBundleCheck, secondBundleCheck}
 use Rattle.files.specs.Cuts.{cutCheck}
-use Rattle.hub_calls.specs.CallList.{strayCheck}
-use Rattle.site_second.specs.Second.{againstCheck}
 
 -- a check gives 0, or one of these numbers
 abbrev pub Among : List ℕ → ℕ → Type 0
@@ -69,6 +71,21 @@ module _ {ks : List ℕ} where
   pub among-ordered : (check : ℕ → ℕ) → T (member 6 ks) → ((w : ℕ) → Among ks (check w)) → (last : ℕ) (ws : List ℕ) → Among ks (scanOrdered check last ws)
   among-ordered check t c = among-scan (inOrder check) (λ last w. w) (λ last. 0) (λ last w. search (among-then, among-unless)) (λ last. inl refl)
 
+-- a bound on all of them, by computation
+pub among-below : {ks : List ℕ} {a : ℕ} (most : ℕ) → T (not (any (λ k. not (leb k most)) ks)) → Among ks a → a ≤ most
+among-below most t (inl e) = rw e (omega arith)
+among-below {ks} {a} most t (inr m) = le-iff a most .0 (all-iff (λ k. leb k most) ks .0 t a m)
+
+-- the number of a call whose checks give these, and 15 last
+pub outcome-numbers : {ks : List ℕ} {c : ℕ} (limit : ℕ) (result : List ℕ) (n m : ℕ) → T (member 15 ks) → Among ks c
+    → Among ks (leaves (outcome c limit result) n m .number)
+outcome-numbers {c = suc c} limit result n m t p = p
+outcome-numbers {ks} {c = zero} limit result n m t p = by (leb (length result) limit)
+  where
+    by : (b : Bool) → Among ks (leaves (cond b (accepted result) (refused 15)) n m .number)
+    by true = inl refl
+    by false = inr (member-iff 15 ks .0 t)
+
 -- a chain of single checks: `search among`
 pub ruleset among = (among-then, among-unless, among-cond, among-number)
 
@@ -82,6 +99,14 @@ module _ {ks : List ℕ} (kind : ℕ) (body : ℕ → List ℕ → ℕ) (b : (h 
   file-numbers site labels [] = inr (here refl)
   file-numbers site labels (h ∷ ws) =
       among-first tt (header-numbers kind site labels (suc (length ws)) h) (⊎-elim inl (λ m. inr (there (there (there m)))) (b h ws))
+
+  -- no 4 where the header tells the length
+  pub sized-numbers : (site labels : Bool) (ws : List ℕ) → sizeOf (getD ws 0 0) ≡ length ws → Among (2 ∷ 3 ∷ ks) (fileCheck kind site labels body ws)
+  sized-numbers site labels [] e = inr (here refl)
+  sized-numbers site labels (h ∷ ws) e =
+      let none : Among (2 ∷ 3 ∷ ks) (4 unless eqb (sizeOf h) (suc (length ws))) = inl (rw (eq-eqb (sizeOf h) (suc (length ws)) e)) in
+      let head : Among (2 ∷ 3 ∷ ks) (headerCheck kind site labels (suc (length ws)) h) = search among in
+      among-then head (⊎-elim inl (λ m. inr (there (there m))) (b h ws))
 
   -- the files of a bundle: 3 and 4 before their words
   pub files-numbers : (k : ℕ) (ws : List ℕ) → Among (3 ∷ 4 ∷ ks) (filesCheck kind body k ws)
@@ -117,9 +142,14 @@ cuts-numbers whole cuts site = search among
 path-word : (most waiting w : ℕ) → Among (5 ∷ 9 ∷ []) (path.wordCheck most waiting w)
 path-word most waiting w = search among
 
+path-body : (h : ℕ) (ws : List ℕ) → Among (5 ∷ 9 ∷ []) (path.bodyCheck mostWaiting h ws)
+path-body h ws = among-then (among-scan _ path.waits path.endCheck (path-word mostWaiting) (λ waiting. search among) 0 ws) (search among)
+
 pub path-numbers : (ws : List ℕ) → Among (2 ∷ 3 ∷ 4 ∷ 5 ∷ 9 ∷ []) (pathCheck ws)
-path-numbers = file-numbers 4 (path.bodyCheck mostWaiting)
-    (λ h ws. among-then (among-scan _ path.waits path.endCheck (path-word mostWaiting) (λ waiting. search among) 0 ws) (search among)) false true
+path-numbers = file-numbers 4 (path.bodyCheck mostWaiting) path-body false true
+
+pub path-sized : (ws : List ℕ) → sizeOf (getD ws 0 0) ≡ length ws → Among (2 ∷ 3 ∷ 5 ∷ 9 ∷ []) (pathCheck ws)
+path-sized = sized-numbers 4 (path.bodyCheck mostWaiting) path-body false true
 
 pub groups-numbers : (s : List ℕ) → Among (16 ∷ []) (groupsCheck s)
 groups-numbers s = search among
@@ -128,9 +158,6 @@ groups-numbers s = search among
 
 pub calls-numbers : (ws : List ℕ) → Among (2 ∷ 3 ∷ 4 ∷ 5 ∷ 10 ∷ 6 ∷ []) (callsCheck ws)
 calls-numbers = file-numbers 11 _ (λ h. among-ordered (callCheck (labelsOf h)) tt (λ w. search among) 0) false true
-
-pub against-numbers : (part path calls : List ℕ) → Among (12 ∷ 14 ∷ []) (againstCheck part path calls)
-against-numbers part path calls = search among
 
 -- Bundles
 
@@ -142,9 +169,6 @@ reply-numbers h = among-scan (reply.wordCheck (labelsOf h)) reply.next reply.end
 
 pub firsts-numbers : (ws : List ℕ) → Among (3 ∷ 4 ∷ 5 ∷ 10 ∷ 6 ∷ 7 ∷ 12 ∷ 13 ∷ []) (firstBundleCheck ws)
 firsts-numbers ws = among-first tt (files-numbers 7 replyCheck reply-numbers (length ws) ws) (search among)
-
-pub stray-numbers : (ws : List ℕ) → Among (14 ∷ []) (strayCheck ws)
-stray-numbers ws = search among
 
 answers-numbers : (h : ℕ) (ws : List ℕ) → Among (5 ∷ 6 ∷ []) (answersCheck h ws)
 answers-numbers h = among-ordered answerCheck tt (λ w. search among) 0

@@ -1,0 +1,272 @@
+-- Demand 1, for all bytes and all buffers. A call's checks give only its numbers (Numbers); and what the old search, the cutter, a second reply and
+-- joining owe is within its limit wherever the checks pass, so that 15 is none of theirs; so are the two files of the planners' call and that of the load bench. Assumes nothing.
+use mathlib.Core.Path.{_≡_, refl, sym, _∙_, ap}
+use mathlib.Core.Logic.{_⊎_, inl, inr}
+use mathlib.Core.Bool.{Bool, not, _&&_}
+use mathlib.Core.List.{List, [], _∷_}
+use Prim.Native.Nat.{ℕ, zero, suc, _*_, _≤_, _<_}
+use native.Mathlib.Nat.{sub-zero}
+use native.Mathlib.Omega.{arith}
+use native.Mathlib.Decide.{decLe, decLt}
+use lib.Dec.{T, leb}
+use lib.ListN.{length, getD, drop}
+use Rattle.sets.specs.Sets.{Mem, any, member}
+use Rattle.sets.proofs.Sets.{member-iff}
+use Rattle.sets.proofs.Tests.{and-iff, le-iff}
+use Rattle.sets.proofs.Filter.{all-iff}
+use Rattle.sets.proofs.Lengths.{at-mem}
+use Rattle.files.specs.Word.{words, bytesOf}
+use Rattle.files.specs.Field.{sizeOf}
+use Rattle.files.specs.Refuse.{_then_, roomCheck, sizeCheck}
+use Rattle.files.specs.Outcome.{outcome, zeros, padded, leaves, leavesLent}
+use Rattle.files.specs.Limits.{partWords}
+use Rattle.files.specs.Part.{partCheck, wholeCheck}
+use Rattle.files.specs.Path.{pathCheck}
+use Rattle.files.specs.Groups.{groupsCheck, loaded, ourGroups}
+use Rattle.files.proofs.Checks.{checks, then-iff, outcome-gives, outcome-over}
+use Rattle.files.proofs.Words.{words-length}
+use Rattle.files.proofs.Parts.{whole-part}
+use Rattle.files.proofs.Numbers.{Among, among, among-more, among-then, among-first, size-numbers, part-numbers, whole-numbers, cuts-numbers, path-numbers, path-sized, groups-numbers, calls-numbers, firsts-numbers, seconds-numbers}
+use Rattle.output.specs.Frame.{input, also, InputRead, Passed}
+use Rattle.output.proofs.Frame.{passed}
+use Rattle.old.specs.Old.{listed, oldSearchCall, oldSearchGroupedCall}
+use Rattle.old.proofs.OldSearch.{listed-length}
+use Rattle.cutter.specs.Cut.{cutCall}
+use Rattle.cutter.proofs.Cutter.{cut-length}
+use Rattle.cutter.proofs.Parts.{cuts-fit}
+use Rattle.path_bundles.specs.Split.{IsSplit, split, splitCheck}
+use Rattle.path_bundles.specs.Packed.{LeftSeveral}
+use Rattle.path_bundles.proofs.Splitting.{split-is}
+use Rattle.site_first.specs.First.{firstReplyCall, firstReplyGroupedCall}
+use Rattle.visits.specs.Whole.{shortest, wholeGroupedNumber}
+use Rattle.visits.specs.Answered.{VisitChecked, SiteRead}
+use Rattle.visits.proofs.Visiting.{site-read, bundle-split, path-alone}
+use Rattle.four_replies.specs.Four.{visitPaths, fourRepliesGroupedCall}
+use Rattle.four_replies.specs.Visit.{At, IsVisit}
+use Rattle.four_replies.proofs.Visits.{four-ours}
+use Rattle.four_replies.proofs.Promised.{request-6}
+use Rattle.site_second.specs.Second.{againstCheck, secondReplyCall, secondReplyGroupedCall}
+use Rattle.site_second.proofs.SecondReplies.{second-reply, second-length}
+use Rattle.expressions.proofs.Loading.{ours-same}
+use Rattle.first_replies.specs.FirstReply.{IsFirstReply, firstReply}
+use Rattle.first_replies.proofs.FirstReplies.{first-reply}
+use Rattle.first_replies.proofs.Alike.{first-same}
+use Rattle.hub_calls.proofs.CallLists.{call-list}
+use Rattle.hub_calls.specs.CallList.{strayCheck, callListCall}
+use Rattle.hub_join.specs.Join.{joinCall}
+use Rattle.hub_join.proofs.Joining.{joined-list, joined-fits}
+use Rattle.dearest.specs.Dearest.{dearPart, dearPath, leavesBoth, dearestNumber, dearestCall}
+use Rattle.dearest.specs.Answer.{Writable}
+use Rattle.dearest.proofs.Answering.{writable, files-fit}
+use Rattle.draws.specs.Draws.{drawn}
+use Rattle.generator.specs.Generate.{generated, spent, boundsCheck, generateCall}
+use Rattle.generator.proofs.Answering.{within}
+use Rattle.generator.proofs.Wholes.{generated-fits}
+use Rattle.demands.specs.PlantOf.{plantOf}
+use Rattle.demands.specs.Grouped.{own}
+use Rattle.demand_1.specs.Demand1.{Settles, SettlesBoth, SettlesLent, SettlesEach, OwedAt, dearestNumbers, generateNumbers, visitNumbers, visitPathNumbers, grouped, rows, Demand1}
+use Rattle.demands.proofs.PlantOf.{plant-holds}
+use Rattle.demands.proofs.OldSearch.{old-final}
+use Rattle.demands.proofs.Grouping.{asks-checked, final-asked}
+
+-- the numbers of a call list beside a part and a path, and of the hub's set
+against-numbers : (part path calls : List ℕ) → Among (12 ∷ 14 ∷ []) (againstCheck part path calls)
+against-numbers part path calls = search among
+
+stray-numbers : (ws : List ℕ) → Among (14 ∷ []) (strayCheck ws)
+stray-numbers ws = search among
+
+-- A call whose checks give c. It settles if these are its numbers, and if, where all pass, there is room and the result is what it owes and within its
+-- limit, or 15 is one of the numbers.
+settles-by {ℓ} : (ks : List ℕ) (limit n m : ℕ) (c : ℕ) (Owed : List ℕ → Type ℓ) (result : List ℕ) → Among ks c
+    → (c ≡ 0 → (4 * limit ≤ n) × Owed result × ((length result ≤ limit) ⊎ T (member 15 ks))) → Settles ks limit Owed (outcome c limit result) n m
+settles-by ks limit n m c Owed result a h = go c refl a
+  where
+    result-or-15 : Dec (length result ≤ limit) → 4 * limit ≤ n → Owed result → (length result ≤ limit) ⊎ T (member 15 ks) → Settles ks limit Owed (outcome 0 limit result) n m
+    result-or-15 (yes l) p w r = inr (result, w, l, p, ap (λ o. leaves o n m) (outcome-gives limit result l))
+    result-or-15 (no l) p w (inl k) = absurd (l k)
+    result-or-15 (no l) p w (inr k) = inl (15, member-iff 15 ks .0 k, ap (λ o. leaves o n m) (outcome-over limit result (omega arith)))
+
+    go : (k : ℕ) → k ≡ c → Among ks k → Settles ks limit Owed (outcome k limit result) n m
+    go zero e b = let (p, w, r) = h (sym e) in result-or-15 (decLe (length result) limit) p w r
+    go (suc k) e (inl z) = absurd (omega arith)
+    go (suc k) e (inr i) = inl (suc k, i, refl)
+
+-- so where the checks are those of the buffers, of the size of the first input s, and then c
+settles {ℓ} : (ks : List ℕ) (limit most n m : ℕ) (s : List ℕ) (c : ℕ) (Owed : List ℕ → Type ℓ) (result : List ℕ) → T (member 1 ks) → T (member 2 ks) → Among ks c
+    → (InputRead most s c → Owed result × ((length result ≤ limit) ⊎ T (member 15 ks)))
+    → Settles ks limit Owed (outcome (roomCheck limit n m then sizeCheck most s then c) limit result) n m
+settles ks limit most n m s c Owed result t u a h =
+    settles-by ks limit n m (roomCheck limit n m then sizeCheck most s then c) Owed result (search among) (λ e.
+    let p : Passed limit n m (input most s c ∷ []) = passed {cs = input most s c ∷ []} refl (record { is = sym e }) refl refl in
+    let (w, r) = h (p .read .0) in
+    (p .room .holds, w, r))
+
+-- The call with two outputs: where the counts are accepted, both files are within their limits.
+both-settle : (d t n a b m : ℕ) → SettlesBoth dearestNumbers 4096 64 (dearPart d t) (dearPath n) (dearestCall a b m d t n) a b m
+unfolding dearestCall
+both-settle d t n a b m = go (dearestNumber a b m d t n) refl (search among)
+  where
+    go : (k : ℕ) → k ≡ dearestNumber a b m d t n → Among dearestNumbers k
+        → SettlesBoth dearestNumbers 4096 64 (dearPart d t) (dearPath n) (leavesBoth k (dearPart d t) (dearPath n) a b m) a b m
+    go zero e i =
+        let w : Writable a b d t n = writable {m = m} (record { is = e }) refl in
+        let (p, q) = files-fit w in
+        inr (p, w .part-holds, q, w .path-holds, refl)
+    go (suc k) e (inl z) = absurd (omega arith)
+    go (suc k) e (inr i) = inl (suc k, i, refl)
+
+-- The call that is lent a state: where the counts are accepted, the file is within its limit.
+lent-settle : (s e k n m : ℕ) → SettlesLent generateNumbers 4096 (λ f. f ≡ generated (drawn s) e k) (generateCall n m s e k) s (spent s e k) n m
+unfolding generateCall
+lent-settle s e k n m = go (roomCheck partWords n m then boundsCheck e k) refl (search among)
+  where
+    go : (x : ℕ) → x ≡ (roomCheck partWords n m then boundsCheck e k) → Among generateNumbers x
+        → SettlesLent generateNumbers 4096 (λ f. f ≡ generated (drawn s) e k) (outcome x partWords (generated (drawn s) e k)) s (spent s e k) n m
+    go zero x i =
+        let p : Passed partWords n m (also (boundsCheck e k) ∷ []) = passed {cs = also (boundsCheck e k) ∷ []} refl (record { is = x }) refl refl in
+        let fits : length (generated (drawn s) e k) ≤ partWords = omega (arith, generated-fits (drawn s) (within e k (p .read .0))) in
+        inr (generated (drawn s) e k, refl, fits, p .room .holds, ap (λ o. leavesLent o s (spent s e k) n m) (outcome-gives partWords (generated (drawn s) e k) fits))
+    go (suc x) e (inl z) = absurd (omega arith)
+    go (suc x) e (inr i) = inl (suc x, i, refl)
+
+-- A call that answers paths one by one: with groups, and so, with our own, without. Where buffers, part, groups and bundle pass, a path is left with
+-- its own checks, of which there is no 4.
+module _ (ns : List ℕ) (m : ℕ) (part groups paths : List ℕ) (Owed : List ℕ → List ℕ → Type 0) (whole : List ℕ)
+    (a : Among whole (wholeGroupedNumber visitPaths (shortest ns) m part groups paths))
+    (owed : partCheck (words part) ≡ 0 → groupsCheck groups ≡ 0 → (f : List ℕ) → pathCheck (words f) ≡ 0 → Owed f (firstReply (words part) (loaded (words groups) (words f)))) where
+  abbrev fs : List (List ℕ)
+  fs = split visitPaths paths
+
+  abbrev done : LeftSeveral
+  done = fourRepliesGroupedCall ns m part groups paths
+
+  abbrev Ends : ℕ → Type 0
+  Ends i =
+      ((k : ℕ) × Mem k visitPathNumbers × At done i k (zeros (getD ns i 0)))
+      ⊎ ((f : List ℕ) × OwedAt Owed fs i f × (length f ≤ 4096) × (4 * 4096 ≤ getD ns i 0) × At done i 0 (padded (getD ns i 0) f))
+
+  is : IsVisit (wholeGroupedNumber visitPaths (shortest ns) m part groups paths) (λ n path. firstReplyGroupedCall n m part groups path) ns m fs done
+  is = request-6 .four-grouped ns m part groups paths
+
+  module _ (z : wholeGroupedNumber visitPaths (shortest ns) m part groups paths ≡ 0) where
+    checked : VisitChecked visitPaths (shortest ns) m part groups paths 0
+    checked = record { checked = record { is = sym z } }
+
+    file-split : IsSplit visitPaths paths fs
+    file-split = split-is visitPaths paths ((simp checks at (bundle-split ns checked)) .1)
+
+    -- the call for one path
+    path-settles : (n : ℕ) (f : List ℕ) → SiteRead n m part groups → Mem f fs → Settles visitPathNumbers 4096 (Owed f) (firstReplyGroupedCall n m part groups f) n m
+    path-settles n f r i =
+        let c = sizeCheck 64 f then pathCheck (words f) in
+        let sized : sizeOf (getD (words f) 0 0) ≡ length (words f) = omega (arith, file-split .sized f i, words-length f) in
+        rw (path-alone r f) (settles-by visitPathNumbers 4096 n m c (Owed f) (firstReply (words part) (loaded (words groups) (words f)))
+        (among-first tt (size-numbers 64 f) (among-more tt (path-sized (words f) sized)))
+        (λ e. (r .room .holds, owed (r .part-read .read) (r .groups-read) f (then-iff (sizeCheck 64 f) (pathCheck (words f)) .0 e .1), inr tt)))
+
+    ends : (i : ℕ) → i < length ns → Dec (i < length fs) → Ends i
+    ends i h (yes l) = by (is .path z i h l) (path-settles n f (site-read ns checked (at-mem 0 ns i h)) (at-mem [] fs i l))
+      where
+        n : ℕ
+        n = getD ns i 0
+
+        f : List ℕ
+        f = getD fs i []
+
+        by : At done i (leaves (firstReplyGroupedCall n m part groups f) n m .number) (leaves (firstReplyGroupedCall n m part groups f) n m .output)
+            → Settles visitPathNumbers 4096 (Owed f) (firstReplyGroupedCall n m part groups f) n m → Ends i
+        by t (inl (k, j, e)) = inl (k, j, rw e at t)
+        by t (inr (g, w, s, r, e)) = inr (g, (λ l. w, λ k. absurd (omega arith)), s, r, rw e at t)
+    ends i h (no l) =
+        let t = is .past z i h (omega arith) in
+        inr ([], (λ k. absurd (omega arith), λ k. refl), omega arith, site-read ns checked (at-mem 0 ns i h) .room .holds, record { number-is = t .number-is; output-is = t .output-is ∙ ap zeros (sym (sub-zero (getD ns i 0))) })
+
+  each-settle : SettlesEach whole visitPathNumbers 4096 (OwedAt Owed fs) done ns m
+  each-settle = (go (wholeGroupedNumber visitPaths (shortest ns) m part groups paths) refl a, is .outputs, is .work)
+    where
+      go : (k : ℕ) → k ≡ wholeGroupedNumber visitPaths (shortest ns) m part groups paths → Among whole k
+          → ((k : ℕ) × Mem k whole × ((i : ℕ) → i < length ns → At done i k (zeros (getD ns i 0)))) ⊎ ((i : ℕ) → i < length ns → Ends i)
+      go zero e b = inr (λ i h. ends (sym e) i h (decLt i (length fs)))
+      go (suc k) e (inl z) = absurd (omega arith)
+      go (suc k) e (inr j) = inl (suc k, j, λ i h. rw e (is .whole (λ z. omega (arith, e)) i h))
+
+pub demand-1 : Demand1
+unfolding oldSearchCall cutCall firstReplyCall callListCall secondReplyCall joinCall oldSearchGroupedCall firstReplyGroupedCall secondReplyGroupedCall
+demand-1 = record {
+  old-search = λ whole path n m. settles _ _ _ n m whole _ _ _ tt tt
+      (among-first tt (whole-numbers (words whole)) (among-first tt (size-numbers 64 path) (among-more tt (path-numbers (words path)))))
+      (λ p.
+      let (w, r) = then-iff (wholeCheck (words whole)) _ .0 (p .read) in (
+        old-final (plantOf (words whole)) (words whole) w (plant-holds (words whole)) (λ x m. m) (words path) (then-iff (sizeCheck 64 path) _ .0 r .1),
+        inl (omega (arith, listed-length (words whole) (words path) (p .some), p .few)),
+      ));
+  cut = λ whole cuts site n m. settles _ _ _ n m whole _ _ _ tt tt
+      (among-first tt (whole-numbers (words whole)) (among-more tt (cuts-numbers (drop 1 (words whole)) cuts site)))
+      (λ p.
+      let (w, c) = then-iff (wholeCheck (words whole)) _ .0 (p .read) in
+      let (fit, _, s) = cuts-fit (drop 1 (words whole)) cuts site c in
+      (refl, inl (omega (arith, cut-length (words whole) cuts (whole-part (words whole) w) fit site s, p .few))));
+  first-reply = λ part path n m. settles _ _ _ n m part _ _ _ tt tt
+      (among-first tt (part-numbers (words part)) (among-first tt (size-numbers 64 path) (among-more tt (path-numbers (words path)))))
+      (λ p.
+      let (a, r) = then-iff (partCheck (words part)) _ .0 (p .read) in
+      (first-reply (words part) (words path) a (then-iff (sizeCheck 64 path) _ .0 r .1), inr tt));
+  call-list = λ bundle n m. settles _ _ _ n m bundle _ _ _ tt tt
+      (among-first tt (firsts-numbers (words bundle)) (among-more tt (stray-numbers (words bundle)))) (λ p. (call-list (words bundle), inr tt));
+  second-reply = λ part path calls n m. settles _ _ _ n m part _ _ _ tt tt
+      (among-first tt (part-numbers (words part)) (among-first tt (size-numbers 64 path) (among-first tt (path-numbers (words path))
+      (among-first tt (size-numbers 4096 calls) (among-first tt (calls-numbers (words calls))
+      (among-more tt (against-numbers (words part) (words path) (words calls))))))))
+      (λ p.
+      let (a, r) = then-iff (partCheck (words part)) _ .0 (p .read) in
+      let (b, _) = then-iff (pathCheck (words path)) _ .0 (then-iff (sizeCheck 64 path) _ .0 r .1) in
+      (second-reply (words part) (words path) (words calls) a b, inl (omega (arith, second-length (words part) (words path) (words calls) a, p .few))));
+  join = λ bundle n m. settles _ _ _ n m bundle _ _ _ tt tt (among-more tt (seconds-numbers (words bundle)))
+      (λ p. (joined-list (words bundle), inl (joined-fits (words bundle) (p .read) (p .some) (p .few))));
+  old-search-grouped = λ whole groups path n m. settles _ _ _ n m whole _ _ _ tt tt
+      (among-first tt (whole-numbers (words whole)) (among-first tt (groups-numbers groups) (among-first tt (size-numbers 64 path) (among-more tt (path-numbers (words path))))))
+      (λ p.
+      let (w, r) = then-iff (wholeCheck (words whole)) _ .0 (p .read) in
+      let (g, s) = then-iff (groupsCheck groups) _ .0 r in
+      let asked = loaded (words groups) (words path) in (
+        final-asked (plantOf (words whole)) (own groups) (words path) g (listed (words whole) asked) .0
+            (old-final (plantOf (words whole)) (words whole) w (plant-holds (words whole)) (λ x m. m) asked (asks-checked (own groups) (words path) g (then-iff (sizeCheck 64 path) _ .0 s .1))),
+        inl (omega (arith, listed-length (words whole) asked (p .some), p .few)),
+      ));
+  first-reply-grouped = λ part groups path n m. settles _ _ _ n m part _ _ _ tt tt
+      (among-first tt (part-numbers (words part)) (among-first tt (groups-numbers groups) (among-first tt (size-numbers 64 path) (among-more tt (path-numbers (words path))))))
+      (λ p.
+      let (a, r) = then-iff (partCheck (words part)) _ .0 (p .read) in
+      let (g, s) = then-iff (groupsCheck groups) _ .0 r in
+      (first-reply (words part) (loaded (words groups) (words path)) a (asks-checked (own groups) (words path) g (then-iff (sizeCheck 64 path) _ .0 s .1)), inr tt));
+  second-reply-grouped = λ part groups path calls n m. settles _ _ _ n m part _ _ _ tt tt
+      (among-first tt (part-numbers (words part)) (among-first tt (groups-numbers groups) (among-first tt (size-numbers 64 path) (among-first tt (path-numbers (words path))
+      (among-first tt (size-numbers 4096 calls) (among-first tt (calls-numbers (words calls))
+      (among-more tt (against-numbers (words part) (words path) (words calls)))))))))
+      (λ p.
+      let (a, r) = then-iff (partCheck (words part)) _ .0 (p .read) in
+      let (g, s) = then-iff (groupsCheck groups) _ .0 r in
+      let (b, _) = then-iff (pathCheck (words path)) _ .0 (then-iff (sizeCheck 64 path) _ .0 s .1) in
+      let asked = loaded (words groups) (words path) in
+      (second-reply (words part) asked (words calls) a (asks-checked (own groups) (words path) g b), inl (omega (arith, second-length (words part) asked (words calls) a, p .few))));
+  dearest = both-settle;
+  generate = lent-settle;
+  four-replies = λ part paths ns m.
+      let bundle : Among visitNumbers (splitCheck visitPaths paths) = search among in
+      let room : Among visitNumbers (roomCheck 4096 (shortest ns) m) = search among in
+      rw (← four-ours ns m part paths) (each-settle ns m part (bytesOf ourGroups) paths (λ path. IsFirstReply (words part) (words path)) visitNumbers
+      (among-then room (among-first tt (size-numbers 4096 part) (among-first tt (part-numbers (words part)) bundle)))
+      (λ p g f c. rw (first-same (words part) (ours-same (words f))) (first-reply (words part) (words f) p c)));
+  four-replies-grouped = λ part groups paths ns m.
+      let bundle : Among (grouped visitNumbers) (splitCheck visitPaths paths) = search among in
+      let room : Among (grouped visitNumbers) (roomCheck 4096 (shortest ns) m) = search among in
+      each-settle ns m part groups paths (λ path. IsFirstReply (words part) (loaded (words groups) (words path))) (grouped visitNumbers)
+      (among-then room (among-first tt (size-numbers 4096 part) (among-first tt (part-numbers (words part)) (among-first tt (groups-numbers groups) bundle))))
+      (λ p g f c. first-reply (words part) (loaded (words groups) (words f)) p (asks-checked (own groups) (words f) g c));
+  -- by computation
+  numbered = λ row i k j.
+      let test : ℕ → Bool = λ k. leb 1 k && leb k 21 in
+      let t = all-iff test row .0 (all-iff (λ row. not (any (λ k. not (test k)) row)) rows .0 tt row i) k j in
+      simp (and-iff, le-iff) at t;
+}

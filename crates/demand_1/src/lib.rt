@@ -1,0 +1,1 @@
+// Demand 1 of every call: definitions and proofs alone, nothing runs.

@@ -1,0 +1,3 @@
+pub mod Four
+pub mod Visit
+pub mod Left

@@ -1,0 +1,2 @@
+// Four paths in one visit, as a call.
+pub mod call;

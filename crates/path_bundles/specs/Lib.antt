@@ -1,0 +1,3 @@
+pub mod Split
+pub mod Packed
+pub mod Place
