@@ -1,8 +1,9 @@
-//! The library's thirteen calls on what is asked, and a visit's paths by single calls.
+//! The library's fifteen calls on what is asked, and the paths of a visit or of desks by single calls.
 use crate::calls;
+use crate::desks::packed_eight;
 use crate::inputs::Ask;
-use crate::timing::{outputs, PART_BYTES, PATH_BYTES};
-use crate::visits::{four_outputs, singly};
+use crate::timing::{outputs, PART_BYTES, PATH_BYTES, REPLY_BYTES};
+use crate::visits::{four_outputs, packed, singly};
 
 pub fn old_search(ask: &Ask, out: &mut [u8], work: &mut [u8]) -> u32 {
     calls::old_search(&ask.file, &ask.path, out, work)
@@ -35,11 +36,29 @@ pub fn four_replies_grouped(ask: &Ask, out: &mut [u8], work: &mut [u8]) -> u32 {
 }
 
 pub fn single_replies(ask: &Ask, out: &mut [u8], work: &mut [u8]) -> u32 {
-    singly(ask, out, |path, out| calls::first_reply(&ask.file, path, out, work))
+    packed(singly(ask, out, |path, out| calls::first_reply(&ask.file, path, out, work)))
 }
 
 pub fn single_replies_grouped(ask: &Ask, out: &mut [u8], work: &mut [u8]) -> u32 {
-    singly(ask, out, |path, out| calls::first_reply_grouped(&ask.file, &ask.groups, path, out, work))
+    packed(singly(ask, out, |path, out| calls::first_reply_grouped(&ask.file, &ask.groups, path, out, work)))
+}
+
+pub fn eight_replies(ask: &Ask, out: &mut [u8], work: &mut [u8]) -> u64 {
+    let [out] = outputs(out, [REPLY_BYTES]);
+    calls::eight_replies(&ask.file, &ask.path, out, work)
+}
+
+pub fn eight_replies_grouped(ask: &Ask, out: &mut [u8], work: &mut [u8]) -> u64 {
+    let [out] = outputs(out, [REPLY_BYTES]);
+    calls::eight_replies_grouped(&ask.file, &ask.groups, &ask.path, out, work)
+}
+
+pub fn eight_single_replies(ask: &Ask, out: &mut [u8], work: &mut [u8]) -> u64 {
+    packed_eight(singly(ask, out, |path, out| calls::first_reply(&ask.file, path, out, work)))
+}
+
+pub fn eight_single_replies_grouped(ask: &Ask, out: &mut [u8], work: &mut [u8]) -> u64 {
+    packed_eight(singly(ask, out, |path, out| calls::first_reply_grouped(&ask.file, &ask.groups, path, out, work)))
 }
 
 pub fn call_list(ask: &Ask, out: &mut [u8], work: &mut [u8]) -> u32 {

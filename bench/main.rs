@@ -1,8 +1,9 @@
-//! The thirteen calls of the library beside plain Rust versions of the same algorithms, and beside better ones where such are known.
+//! The fifteen calls of the library beside plain Rust versions of the same algorithms, and beside better ones where such are known.
 mod best;
 #[path = "../rust/src/calls.rs"]
 mod calls;
 mod climb;
+mod desks;
 mod inputs;
 mod library;
 mod plain;
@@ -12,14 +13,19 @@ mod visits;
 mod words;
 
 use table::{Call, BEST, BUNDLE, PART, PLAIN_SINGLE, PLANT, SINGLE, UNGROUPED};
+use timing::{Run, Version};
+
+fn versions(runs: Vec<Run<u32>>) -> Vec<Version> {
+    runs.into_iter().map(Version::Word).collect()
+}
 
 /// The last version of a grouped call is the call without groups, on the same input: its groups are ours.
 fn calls() -> Vec<Call> {
     use best as b;
     use library as l;
     use plain as p;
-    let call = |name, sizes, shapes, versions| Call { name, sizes, shapes, versions, columns: vec![BEST] };
-    let grouped = |name, shape, versions| Call { name, sizes: PART, shapes: vec![shape], versions, columns: vec![UNGROUPED] };
+    let call = |name, sizes, shapes, runs| Call { name, sizes, shapes, versions: versions(runs), columns: vec![BEST] };
+    let grouped = |name, shape, runs| Call { name, sizes: PART, shapes: vec![shape], versions: versions(runs), columns: vec![UNGROUPED] };
     let [old, first, second] = [inputs::old_search_of_groups(), inputs::first_reply_of_groups(), inputs::second_reply_of_groups()];
     vec![
         call("old search", PART, inputs::old_search(), vec![l::old_search, p::old_search, b::old_search]),
@@ -40,7 +46,7 @@ fn calls() -> Vec<Call> {
 fn visits() -> Vec<Call> {
     use library as l;
     use plain as p;
-    let visit = |name, shapes, versions, columns| Call { name, sizes: PART, shapes, versions, columns };
+    let visit = |name, shapes, runs, columns| Call { name, sizes: PART, shapes, versions: versions(runs), columns };
     vec![
         visit(
             "four replies",
@@ -54,6 +60,40 @@ fn visits() -> Vec<Call> {
             vec![l::four_replies_grouped, p::four_replies_grouped, l::single_replies_grouped, p::single_replies_grouped, l::four_replies],
             vec![SINGLE, PLAIN_SINGLE, UNGROUPED],
         ),
+    ]
+}
+
+/// Beside desks stand single calls for their paths.
+fn desks() -> Vec<Call> {
+    use library as l;
+    use plain as p;
+    use Version::{Desks, Singly};
+    vec![
+        Call {
+            name: "eight replies",
+            sizes: PART,
+            shapes: inputs::eight_replies(),
+            versions: vec![
+                Desks(l::eight_replies),
+                Desks(p::eight_replies),
+                Singly(l::eight_single_replies),
+                Singly(p::eight_single_replies),
+            ],
+            columns: vec![SINGLE, PLAIN_SINGLE],
+        },
+        Call {
+            name: "eight replies, grouped",
+            sizes: PART,
+            shapes: vec![inputs::eight_replies_of_groups()],
+            versions: vec![
+                Desks(l::eight_replies_grouped),
+                Desks(p::eight_replies_grouped),
+                Singly(l::eight_single_replies_grouped),
+                Singly(p::eight_single_replies_grouped),
+                Desks(l::eight_replies),
+            ],
+            columns: vec![SINGLE, PLAIN_SINGLE, UNGROUPED],
+        },
     ]
 }
 
@@ -76,6 +116,6 @@ fn main() {
     let words: Vec<String> = std::env::args().skip(1).collect();
     match words.first().map(String::as_str) {
         Some("search") => search(words.get(1).and_then(|w| w.parse().ok()).unwrap_or(5.0)),
-        _ => table::print(&calls().into_iter().chain(visits()).collect::<Vec<Call>>()),
+        _ => table::print(&calls().into_iter().chain(visits()).chain(desks()).collect::<Vec<Call>>()),
     }
 }

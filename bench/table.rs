@@ -31,7 +31,7 @@ pub const BEST: Column = ("times best known", |sizes| {
 /// The library's call without groups, which is the last version, at all sizes.
 pub const UNGROUPED: Column = ("times without groups", |sizes| by_least(sizes, 0, sizes[0].least.len() - 1));
 
-/// Single calls for the paths of a visit, the library's and the plain version's.
+/// Single calls for the paths of a visit or of desks, the library's and the plain version's.
 pub const SINGLE: Column = ("times single calls", |sizes| by_least(sizes, 0, 2));
 pub const PLAIN_SINGLE: Column = ("times single calls, both plain", |sizes| by_least(sizes, 1, 3));
 

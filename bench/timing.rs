@@ -1,7 +1,19 @@
 //! Versions of a call on the same inputs: their answers are compared, then they are timed by turns.
+use crate::desks::{chosen, DESKS};
 use crate::inputs::Ask;
 
-pub type Version = fn(&Ask, &mut [u8], &mut [u8]) -> u32;
+pub type Run<N> = fn(&Ask, &mut [u8], &mut [u8]) -> N;
+
+/// What a version is, and how it gives its numbers.
+#[derive(Clone, Copy)]
+pub enum Version {
+    /// A call with one number, or a visit with four, in a word.
+    Word(Run<u32>),
+    /// A call for desks, with eight numbers.
+    Desks(Run<u64>),
+    /// Single calls for desks: their numbers likewise, and an output for each desk.
+    Singly(Run<u64>),
+}
 
 /// The seconds that are spent on one input in all rounds, but for calls that take longer.
 const BUDGET: f64 = 0.1;
@@ -42,17 +54,22 @@ pub struct Buffers {
 
 impl Buffers {
     pub fn new() -> Buffers {
-        Buffers { out: vec![0x55; 4 * REPLY_BYTES], work: vec![0x55; 32_768] }
+        Buffers { out: vec![0x55; DESKS * REPLY_BYTES], work: vec![0x55; 32_768] }
     }
 
-    /// A version is handed a final list's output, and for a visit four replies'. What is behind it stays as it is.
-    fn call(&mut self, version: Version, ask: &Ask) -> u32 {
-        let length = if ask.paths.is_empty() { LIST_BYTES } else { 4 * REPLY_BYTES };
-        version(ask, &mut self.out[..length], &mut self.work)
+    /// A version is handed a final list's output, and for several paths eight replies', of which it takes as many as it needs. What is behind
+    /// that stays as it is.
+    fn call(&mut self, version: Version, ask: &Ask) -> u64 {
+        let length = if ask.paths.is_empty() { LIST_BYTES } else { DESKS * REPLY_BYTES };
+        let (out, work) = (&mut self.out[..length], &mut self.work[..]);
+        match version {
+            Version::Word(run) => u64::from(run(ask, out, work)),
+            Version::Desks(run) | Version::Singly(run) => run(ask, out, work),
+        }
     }
 
     /// The seconds of one call, and its number.
-    pub fn once(&mut self, version: Version, ask: &Ask) -> (f64, u32) {
+    pub fn once(&mut self, version: Version, ask: &Ask) -> (f64, u64) {
         let start = now();
         let number = self.call(version, ask);
         (now() - start, number)
@@ -101,25 +118,29 @@ impl Rounds {
     }
 }
 
-/// How many bytes of output a version must leave as the first does. The first two are the call itself, and owe all that they are handed; what
-/// stands beside a visit owes an output for each path, as single calls know of no other.
-fn owed(version: usize, ask: &Ask) -> usize {
-    if version < 2 || ask.paths.is_empty() {
-        4 * REPLY_BYTES
-    } else {
-        ask.paths.len() * REPLY_BYTES
+/// How many bytes of output a version must leave as the first does. The first two are the call itself, and owe all that there is; what stands
+/// beside a visit owes an output for each path, as single calls know of no other, and what stands beside desks one output.
+fn owed(place: usize, version: Version, ask: &Ask) -> usize {
+    match version {
+        Version::Singly(_) => REPLY_BYTES,
+        Version::Word(_) if place >= 2 && !ask.paths.is_empty() => ask.paths.len() * REPLY_BYTES,
+        _ => DESKS * REPLY_BYTES,
     }
 }
 
-/// All versions must leave the number that is due, the same bytes and the same state, which each is lent anew. Gives the seconds of each.
+/// All versions must leave the number that is due, the same bytes and the same state, which each is lent anew, and single calls for desks
+/// what these are owed of their replies. Gives the seconds of each.
 fn compare(versions: &[Version], ask: &Ask, name: &str) -> Vec<f64> {
     let (mut first, asked) = (Buffers::new(), ask.clone());
     let (time, number) = first.once(versions[0], &asked);
     assert_eq!(number, ask.number, "{name}");
     let mut times = vec![time];
-    for (v, &version) in versions.iter().enumerate().skip(1) {
-        let (mut other, again, owed) = (Buffers::new(), ask.clone(), owed(v, ask));
-        let (time, number) = other.once(version, &again);
+    for (place, &version) in versions.iter().enumerate().skip(1) {
+        let (mut other, again, owed) = (Buffers::new(), ask.clone(), owed(place, version, ask));
+        let (time, mut number) = other.once(version, &again);
+        if let Version::Singly(_) = version {
+            number = chosen(ask.paths.len(), number, &mut other.out);
+        }
         let same = other.out[..owed] == first.out[..owed] && other.work == first.work && again.state == asked.state;
         assert!(number == ask.number && same, "{name}: two versions differ");
         times.push(time);

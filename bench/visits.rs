@@ -12,11 +12,11 @@ pub fn packed(numbers: [u32; 4]) -> u32 {
     u32::from_le_bytes(numbers.map(|number| number as u8))
 }
 
-/// A call for each path of a visit.
-pub fn singly(ask: &Ask, out: &mut [u8], mut call: impl FnMut(&[u8], &mut [u8]) -> u32) -> u32 {
-    let mut numbers = [0; 4];
-    for ((number, path), out) in numbers.iter_mut().zip(&ask.paths).zip(four_outputs(out)) {
+/// A call for each path, of at most so many.
+pub fn singly<const N: usize>(ask: &Ask, out: &mut [u8], mut call: impl FnMut(&[u8], &mut [u8]) -> u32) -> [u32; N] {
+    let mut numbers = [0; N];
+    for ((number, path), out) in numbers.iter_mut().zip(&ask.paths).zip(outputs(out, [REPLY_BYTES; N])) {
         *number = call(path, out);
     }
-    packed(numbers)
+    numbers
 }

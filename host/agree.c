@@ -58,15 +58,17 @@ static void parse(struct sample *s, enum subject subject, const char *text)
 #define WALKED_1 "71300008 80000002 90000001 a0000032 a0000632 90000003 a0000032 a0000632"
 #define STRAY "70000004 80010001 90000000 a0000020"
 #define EMPTY "40000002 60000000"
-/* The result of a visit that is refused with 17 as a whole. */
+#define THREE EMPTY "; " EMPTY "; " EMPTY
+/* The result of a visit, or of desks, that is refused with 17 as a whole. */
 #define NO_SPLIT 0x11111111
+#define NO_DESKS 0x1111111111111111
 
 /* Document 01's table and end-to-end files, then rows of docs/DECISIONS.md on which readings differ, then stopped nodes, then labels outside a
    range, then groups: ours, a press maker's, and wrong ones; then reach words to no door, in rows that nobody follows and in others, and what comes
-   ahead of 14; then bundles of paths, with the number of each path in a byte of the result. */
+   ahead of 14; then bundles of paths, with the number of each path in a byte of the result, in a visit and for desks. */
 static const struct example {
     enum subject subject;
-    uint32_t result;
+    uint64_t result;
     const char *text;
 } examples[] = {
     {AS_PART, 3, "10100001"},
@@ -159,11 +161,21 @@ static const struct example {
     {AS_PATHS, NO_SPLIT, "40000000"},
     {AS_PATHS, NO_SPLIT, P "; 40000003 60000000"},
     {AS_PATHS, NO_SPLIT, P "; 40000000 60000000; " P},
-    {AS_PATHS, NO_SPLIT, EMPTY "; " EMPTY "; " EMPTY "; " EMPTY "; " EMPTY},
+    {AS_PATHS, NO_SPLIT, THREE "; " EMPTY "; " EMPTY},
+    {AS_DESKS, 0, P},
+    {AS_DESKS, 0, P "; " EMPTY "; " BUT "; " GROUPED "; " P},
+    {AS_DESKS, 0, THREE "; " P "; " BUT "; " THREE},
+    {AS_DESKS, 0x0500000000030900, P "; 40000002 60000003; 10000001; " THREE "; " EMPTY "; 40100002 53001001"},
+    {AS_DESKS, 0x0909090909090909, "40000001; 40000001; 40000001; 40000001; 40000001; 40000001; 40000001; 40000001"},
+    {AS_DESKS, NO_DESKS, ""},
+    {AS_DESKS, NO_DESKS, THREE "; 40000000"},
+    {AS_DESKS, NO_DESKS, THREE "; " THREE "; " EMPTY "; 40000003 60000000"},
+    {AS_DESKS, NO_DESKS, THREE "; 40000000 60000000; " P},
+    {AS_DESKS, NO_DESKS, THREE "; " THREE "; " THREE},
 };
 
 /* Files that the damaged ones are made of, with and without stopped nodes, labels outside a range, groups and reach words to no door, a path in
-   which as many operands wait as may, and bundles of paths, one of them full. */
+   which as many operands wait as may, and bundles of paths for a visit and for desks, some of them full. */
 static const struct example seeds[] = {
     {AS_PART, 0, "10000005 20030001 30050002 20010003 30050002"},
     {AS_PART, 0, "1a000009 20040000 30000000 30000001 3fff0000 20070007 37ff0007 3800ffff 2005ffff"},
@@ -189,6 +201,8 @@ static const struct example seeds[] = {
     {AS_ASKED, 0, STOPPED_DOOR "; " MAKERS "; " GROUPED "; " CALL_WORDS},
     {AS_PATHS, 0, P "; " EMPTY "; 40100002 52005005"},
     {AS_PATHS, 0, "40100003 51000007 60000003; " EMPTY "; " BUT "; 40200004 50005005 51000003 60000002"},
+    {AS_DESKS, 0, P "; " THREE "; 40100002 52005005"},
+    {AS_DESKS, 0, "40100003 51000007 60000003; " THREE "; 40200004 50005005 51000003 60000002; " THREE},
 };
 
 static void copy(struct sample *to, const struct sample *from)
@@ -324,6 +338,8 @@ static void test_sizes(void)
         {AS_PATHS, 0x40000000, 0x60000000, 0, MOWQACHI_WAITING + 1},
         {AS_PATHS, 0x40000000, 0x60000000, 0, MOWQACHI_PATH_WORDS},
         {AS_PATHS, 0x40000000, 0x60000000, 0, MOWQACHI_BUNDLE_WORDS},
+        {AS_DESKS, 0x40000000, 0x60000000, 0, MOWQACHI_PATH_WORDS},
+        {AS_DESKS, 0x40000000, 0x60000000, 0, MOWQACHI_BUNDLE_WORDS},
     };
     for (size_t k = 0; k < sizeof files / sizeof *files; k++)
         for (size_t count = files[k].limit - 1; count <= files[k].limit + 2; count++) {
@@ -487,6 +503,8 @@ static struct span bytes_of(const struct file *f, uint8_t *bytes)
     return (struct span){bytes, 4 * f->count};
 }
 
+#define FOUR_EMPTY EMPTY " " EMPTY " " EMPTY " " EMPTY
+
 /* Inputs of the calls with groups, right ones and wrong ones with their numbers; the last call list is wrong beside the path, and a bundle of paths
    is wrong as a whole. */
 static const struct choice {
@@ -497,7 +515,8 @@ static const struct choice {
   some_groups[] = {{0, MAKERS}, {16, ""}, {16, P}, {16, "50fff000 503ff000 500ff000 505ff400 506ff600 507ff700 50bff800 51000007"}},
   some_paths[] = {{0, GROUPED}, {2, ""}, {5, "40100002 51000008"}, {9, "40000002 60000003"}},
   some_lists[] = {{0, CALL_WORDS}, {3, P}, {10, "b0000002 c0000011"}, {12, "b0000001"}},
-  some_bundles[] = {{0, P " " GROUPED}, {17, ""}, {17, P " 40000000"}, {17, EMPTY " " EMPTY " " EMPTY " " EMPTY " " EMPTY}};
+  some_bundles[] = {{0, P " " GROUPED}, {17, ""}, {17, P " 40000000"}, {17, FOUR_EMPTY " " EMPTY}},
+  some_desks[] = {{0, FOUR_EMPTY " " GROUPED}, {17, ""}, {17, P " 40000000"}, {17, FOUR_EMPTY " " FOUR_EMPTY " " EMPTY}};
 
 /* A call on all choices of its inputs: the first that is wrong gives the number. */
 static void test_order(enum call name, const struct choice *const *inputs, int count)
@@ -523,11 +542,14 @@ static void test_orders(void)
     static const struct choice *const old[] = {some_wholes, some_groups, some_paths};
     static const struct choice *const site[] = {some_parts, some_groups, some_paths, some_lists};
     static const struct choice *const visit[] = {some_parts, some_groups, some_bundles}, *const ungrouped[] = {some_parts, some_bundles};
+    static const struct choice *const desks[] = {some_parts, some_groups, some_desks}, *const ungrouped_desks[] = {some_parts, some_desks};
     test_order(OLD_SEARCH_GROUPED, old, 3);
     test_order(FIRST_REPLY_GROUPED, site, 3);
     test_order(SECOND_REPLY_GROUPED, site, 4);
     test_order(FOUR_REPLIES_GROUPED, visit, 3);
     test_order(FOUR_REPLIES, ungrouped, 2);
+    test_order(EIGHT_REPLIES_GROUPED, desks, 3);
+    test_order(EIGHT_REPLIES, ungrouped_desks, 2);
 }
 
 /* A call that takes three numbers alone. */
@@ -538,18 +560,19 @@ static void test_counts(enum call name, uint32_t first, uint32_t second, uint32_
     must_be(call_names[name], number, call(&asked, &found));
 }
 
-/* A call for first replies, and the one with groups: its result, and the words in one of its outputs. */
-static void test_long_reply(const struct asked *plain, uint32_t result, int output, size_t words)
+/* A call for first replies, and the one with groups: its result, and the words of one of its files. */
+static void test_long_reply(const struct asked *plain, uint64_t result, int file, size_t words)
 {
     const struct asked calls[] = {*plain, with_groups(plain, our_groups)};
     struct span found;
     for (int k = 0; k < 2; k++) {
         must_be("result of the dear reply", result, call(&calls[k], &found));
-        must_be("words of the dear reply", words, words_of(result_of(output)));
+        must_be("words of the dear reply", words, words_of(result_of(file)));
     }
 }
 
-/* Row 15: two doors, so many targets each, the star of an or of 15 full ranges, by itself and as the second path of a visit. */
+/* Row 15: two doors, so many targets each, the star of an or of 15 full ranges, by itself, as the second path of a visit, and at a
+   second desk. */
 static void test_dear_reply(uint32_t targets, uint32_t number, size_t words)
 {
     static const uint8_t empty[] = {2, 0, 0, 0x40, 0, 0, 0, 0x60};
@@ -561,6 +584,7 @@ static void test_dear_reply(uint32_t targets, uint32_t number, size_t words)
     put_bytes(&two, span_of(&path));
     test_long_reply(&(struct asked){FIRST_REPLY, {span_of(&part), span_of(&path)}, {0}}, number, 0, words);
     test_long_reply(&(struct asked){FOUR_REPLIES, {span_of(&part), span_of(&two)}, {0}}, number << 8, 1, words);
+    test_long_reply(&(struct asked){EIGHT_REPLIES, {span_of(&part), span_of(&two)}, {0}}, number << 8, 1, words);
 }
 
 /* A root's row that reaches 255 doors in all states, and one node on from there in so many: 4,081 pairs and those. That node is a door, or not. */
@@ -595,7 +619,7 @@ static void test_room(const struct asked *asked)
 {
     const struct asked none = {asked->call, {{NULL, 0}}, {99}};
     const struct room least = room_for(asked->call);
-    const uint32_t refused = number_for_all(asked->call, MOWQACHI_BUFFER);
+    const uint64_t refused = number_for_all(asked->call, MOWQACHI_BUFFER);
     struct room more = {{least.out[0] + 1234567}, least.work + 3}, shorter = least;
     must_be("number at just enough", 0, call_with(asked, least));
     for (int k = 1; k < OUTPUTS; k++)
@@ -629,7 +653,8 @@ static void test_buffers(void)
                                   {CALL_LIST, {f[3]}, {0}}, {SECOND_REPLY, {f[2], f[1], f[4]}, {0}}, {JOIN, {f[5]}, {0}},
                                   {OLD_SEARCH_GROUPED, {f[0], our_groups, f[1]}, {0}}, {FIRST_REPLY_GROUPED, {f[2], our_groups, f[1]}, {0}},
                                   {SECOND_REPLY_GROUPED, {f[2], our_groups, f[1], f[4]}, {0}}, {FOUR_REPLIES, {f[2], f[6]}, {0}},
-                                  {FOUR_REPLIES_GROUPED, {f[2], our_groups, f[6]}, {0}}, {DEAREST, {{NULL, 0}}, {2, 3, 4}},
+                                  {FOUR_REPLIES_GROUPED, {f[2], our_groups, f[6]}, {0}}, {EIGHT_REPLIES, {f[2], f[6]}, {0}},
+                                  {EIGHT_REPLIES_GROUPED, {f[2], our_groups, f[6]}, {0}}, {DEAREST, {{NULL, 0}}, {2, 3, 4}},
                                   {GENERATE, {{NULL, 0}}, {7, 3, 4}}};
     for (int c = 0; c < CALL_COUNT; c++)
         test_room(&asked[c]);

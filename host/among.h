@@ -4,9 +4,9 @@
 
 #include "calls.h"
 
-/* What a call is due to give and to leave: its result, a file in each output that gets one, and the state, if it is lent one. */
+/* What a call is due to give and to leave: its result, what each output begins with, a file or several ones, and the state, if it is lent one. */
 struct due {
-    uint32_t result;
+    uint64_t result;
     struct span files[OUTPUTS];
     uint32_t state;
 };

@@ -1,5 +1,6 @@
 #include "calls.h"
 
+#include <inttypes.h>
 #include <stdio.h>
 #include <stdlib.h>
 #include <string.h>
@@ -8,11 +9,11 @@
 
 const char *const call_names[CALL_COUNT] = {
     "old_search", "cut", "first_reply", "call_list", "second_reply", "join", "old_search_grouped", "first_reply_grouped", "second_reply_grouped",
-    "four_replies", "four_replies_grouped", "dearest", "generate"};
+    "four_replies", "four_replies_grouped", "eight_replies", "eight_replies_grouped", "dearest", "generate"};
 const struct span our_groups = {(const uint8_t *)mowqachi_our_groups, sizeof mowqachi_our_groups};
 
 static unsigned given[CALL_COUNT];
-static struct draft results[OUTPUTS];
+static struct draft results[FILES];
 static uint32_t left;
 
 struct room room_for(enum call call)
@@ -23,7 +24,8 @@ struct room room_for(enum call call)
         [FIRST_REPLY] = {MOWQACHI_REPLY_BYTES}, [FIRST_REPLY_GROUPED] = {MOWQACHI_REPLY_BYTES}, [CALL_LIST] = {MOWQACHI_CALLS_BYTES},
         [SECOND_REPLY] = {MOWQACHI_REPLY_BYTES}, [SECOND_REPLY_GROUPED] = {MOWQACHI_REPLY_BYTES},
         [FOUR_REPLIES] = {MOWQACHI_REPLY_BYTES, MOWQACHI_REPLY_BYTES, MOWQACHI_REPLY_BYTES, MOWQACHI_REPLY_BYTES},
-        [FOUR_REPLIES_GROUPED] = {MOWQACHI_REPLY_BYTES, MOWQACHI_REPLY_BYTES, MOWQACHI_REPLY_BYTES, MOWQACHI_REPLY_BYTES}};
+        [FOUR_REPLIES_GROUPED] = {MOWQACHI_REPLY_BYTES, MOWQACHI_REPLY_BYTES, MOWQACHI_REPLY_BYTES, MOWQACHI_REPLY_BYTES},
+        [EIGHT_REPLIES] = {MOWQACHI_REPLY_BYTES}, [EIGHT_REPLIES_GROUPED] = {MOWQACHI_REPLY_BYTES}};
     struct room room = {.work = MOWQACHI_WORK_BYTES};
     memcpy(room.out, bytes[call], sizeof room.out);
     return room;
@@ -47,9 +49,9 @@ struct room draw_room(enum call call)
     return room;
 }
 
-struct span result_of(int output)
+struct span result_of(int file)
 {
-    return span_of(&results[output]);
+    return span_of(&results[file]);
 }
 
 uint32_t state_left(void)
@@ -70,6 +72,7 @@ static enum call grouped(enum call call)
     case FIRST_REPLY: return FIRST_REPLY_GROUPED;
     case SECOND_REPLY: return SECOND_REPLY_GROUPED;
     case FOUR_REPLIES: return FOUR_REPLIES_GROUPED;
+    case EIGHT_REPLIES: return EIGHT_REPLIES_GROUPED;
     default: return call;
     }
 }
@@ -89,27 +92,46 @@ struct asked with_groups(const struct asked *a, struct span groups)
     return (struct asked){grouped(a->call), {a->in[0], groups, a->in[1], a->in[2]}, {a->values[0]}};
 }
 
+size_t most_paths(enum call call)
+{
+    switch (call) {
+    case FOUR_REPLIES: case FOUR_REPLIES_GROUPED: return MOWQACHI_VISIT_PATHS;
+    case EIGHT_REPLIES: case EIGHT_REPLIES_GROUPED: return MOWQACHI_DESKS;
+    default: return 0;
+    }
+}
+
 bool is_visit(enum call call)
 {
-    return call == FOUR_REPLIES || call == FOUR_REPLIES_GROUPED;
+    return most_paths(call) > 0;
+}
+
+bool shares_output(enum call call)
+{
+    return most_paths(call) == MOWQACHI_DESKS;
 }
 
 struct span paths_of(const struct asked *a)
 {
-    return a->in[a->call == FOUR_REPLIES ? 1 : 2];
+    return a->in[reads_path(a->call) ? 1 : 2];
 }
 
-uint32_t number_for(enum call call, uint32_t result, int output)
+uint32_t number_for(enum call call, uint64_t result, int file)
 {
-    return is_visit(call) ? mowqachi_number_at(result, (unsigned)output) : result;
+    if (shares_output(call))
+        return mowqachi_desk_number(result, (unsigned)file);
+    return is_visit(call) ? mowqachi_number_at((uint32_t)result, (unsigned)file) : (uint32_t)result;
 }
 
-uint32_t number_for_all(enum call call, uint32_t number)
+uint64_t number_for_all(enum call call, uint32_t number)
 {
-    return is_visit(call) ? number * 0x01010101u : number;
+    uint64_t result = number;
+    for (size_t k = 1; k < most_paths(call); k++)
+        result |= (uint64_t)number << 8 * k;
+    return result;
 }
 
-uint32_t invoke(const struct asked *a, const struct buffers *b)
+uint64_t invoke(const struct asked *a, const struct buffers *b)
 {
     const struct span *x = &a->in[0], *y = &a->in[1], *z = &a->in[2], *t = &a->in[3];
     const uint32_t *v = a->values;
@@ -134,6 +156,9 @@ uint32_t invoke(const struct asked *a, const struct buffers *b)
     case FOUR_REPLIES_GROUPED:
         return mowqachi_four_replies_grouped(x->bytes, x->len, y->bytes, y->len, z->bytes, z->len,
                                              o[0], l[0], o[1], l[1], o[2], l[2], o[3], l[3], work, work_len);
+    case EIGHT_REPLIES: return mowqachi_eight_replies(x->bytes, x->len, y->bytes, y->len, out, out_len, work, work_len);
+    case EIGHT_REPLIES_GROUPED:
+        return mowqachi_eight_replies_grouped(x->bytes, x->len, y->bytes, y->len, z->bytes, z->len, out, out_len, work, work_len);
     case DEAREST: return mowqachi_dearest(v[0], v[1], v[2], o[0], l[0], o[1], l[1], work, work_len);
     default: return mowqachi_generate(b->state, v[1], v[2], out, out_len, work, work_len);
     }
@@ -186,17 +211,23 @@ static bool zero_from(const uint8_t *bytes, size_t from, size_t len)
     return from >= len || (bytes[from] == 0 && memcmp(bytes + from, bytes + from + 1, len - from - 1) == 0);
 }
 
-/* Whether an output gets a file where nothing is refused: that of a visit does if there is a path for it. */
-static bool has_file(const struct asked *a, int output)
+/* How many files a call writes, at most. */
+static int most_files(enum call call)
 {
-    return !is_visit(a->call) || file_in(paths_of(a), (size_t)output).len > 0;
+    return is_visit(call) ? (int)most_paths(call) : room_for(call).out[1] > 0 ? 2 : 1;
+}
+
+/* Whether a file is written where nothing is refused: one of a visit is if there is a path for it. */
+static bool has_file(const struct asked *a, int file)
+{
+    return !is_visit(a->call) || file_in(paths_of(a), (size_t)file).len > 0;
 }
 
 /* Whether the numbers of a result are such that there are, and past the last path of a visit 0, unless the whole is refused. */
-static bool right_numbers(const struct asked *a, uint32_t result)
+static bool right_numbers(const struct asked *a, uint64_t result)
 {
     bool right = true;
-    for (int k = 0; k < OUTPUTS; k++) {
+    for (int k = 0; k < most_files(a->call); k++) {
         uint32_t number = number_for(a->call, result, k);
         bool known = number <= MOWQACHI_PATHS || number == MOWQACHI_COUNTS;
         right = right && known && (number == 0 || has_file(a, k) || result == number_for_all(a->call, number));
@@ -216,24 +247,53 @@ static bool keep_result(struct draft *result, bool due, const uint8_t *out, size
     return true;
 }
 
-static void check_left(const struct asked *a, uint32_t result, const struct buffers *b)
+/* Whether the result says that there is a file. */
+static bool is_due(const struct asked *a, uint64_t result, int file)
+{
+    return number_for(a->call, result, file) == 0 && has_file(a, file);
+}
+
+/* Each file in an output of its own. */
+static bool keep_results(const struct asked *a, uint64_t result, const struct buffers *b)
 {
     struct room least = room_for(a->call);
+    bool right = true;
+    for (int k = 0; k < most_files(a->call); k++)
+        right = keep_result(&results[k], is_due(a, result, k), b->out[k], b->room.out[k], least.out[k]) && right;
+    return right;
+}
+
+/* The files of all desks one behind another in one output, where mowqachi.h finds each of them, and then zeros. */
+static bool keep_shared(const struct asked *a, uint64_t result, const struct buffers *b)
+{
+    const uint8_t *out = b->out[0];
+    size_t least = room_for(a->call).out[0], at = 0;
+    for (int k = 0; k < most_files(a->call); k++) {
+        bool due = is_due(a, result, k);
+        if (mowqachi_desk_reply(out, result, (unsigned)k) != (due ? out + at : NULL))
+            return false;
+        size_t kept = due ? mowqachi_file_bytes(out + at) : 0;
+        if (kept > least - at)
+            return false;
+        put_bytes(&results[k], (struct span){out + at, kept});
+        at += kept;
+    }
+    return zero_from(out, at, b->room.out[0]);
+}
+
+static void check_left(const struct asked *a, uint64_t result, const struct buffers *b)
+{
     bool moved = takes_state(a->call) && *b->state != a->values[0];
     bool right = right_numbers(a, result) && zero_from(b->work, 0, b->room.work) && (result == 0 || !moved);
-    for (int k = 0; k < OUTPUTS; k++) {
-        bool due = number_for(a->call, result, k) == 0 && has_file(a, k);
+    for (int k = 0; k < FILES; k++)
         results[k].len = 0;
-        if (least.out[k] > 0)
-            right = keep_result(&results[k], due, b->out[k], b->room.out[k], least.out[k]) && right;
-    }
-    if (!right) {
-        printf("%s: wrong numbers, buffers or state after 0x%x\n", call_names[a->call], (unsigned)result);
+    if (!right || !(shares_output(a->call) ? keep_shared : keep_results)(a, result, b)) {
+        printf("%s: wrong numbers, buffers or state after 0x%" PRIx64 "\n", call_names[a->call], result);
         exit(1);
     }
 }
 
-uint32_t call_with(const struct asked *a, struct room room)
+uint64_t call_with(const struct asked *a, struct room room)
 {
     struct asked lent = *a;
     struct buffers b = {.work = lend(room.work, 0x5a), .room = room, .state = lend_state(a)};
@@ -241,40 +301,40 @@ uint32_t call_with(const struct asked *a, struct room room)
         lent.in[k] = lend_copy(a->in[k]);
     for (int k = 0; k < OUTPUTS; k++)
         b.out[k] = lend(room.out[k], 0xa5);
-    uint32_t result = invoke(&lent, &b);
+    uint64_t result = invoke(&lent, &b);
     check_left(a, result, &b);
     for (int k = 0; k < INPUTS; k++) {
         if (a->in[k].len > 0 && memcmp(lent.in[k].bytes, a->in[k].bytes, a->in[k].len) != 0)
             abort();
         give_back(lent.in[k].bytes);
     }
-    for (int k = 0; k < OUTPUTS; k++) {
+    for (int k = 0; k < most_files(a->call); k++)
         given[a->call] |= 1u << number_for(a->call, result, k);
+    for (int k = 0; k < OUTPUTS; k++)
         give_back(b.out[k]);
-    }
     give_back(b.work);
     take_state(b.state);
     return result;
 }
 
-uint32_t call(const struct asked *a, struct span *found)
+uint64_t call(const struct asked *a, struct span *found)
 {
-    uint32_t result = call_with(a, room_for(a->call));
+    uint64_t result = call_with(a, room_for(a->call));
     *found = result_of(0);
     return result;
 }
 
 bool leave_the_same(const struct asked *a, const struct asked *b)
 {
-    static struct draft first[OUTPUTS];
+    static struct draft first[FILES];
     struct room room = draw_room(a->call);
-    uint32_t result = call_with(a, room);
-    for (int k = 0; k < OUTPUTS; k++) {
+    uint64_t result = call_with(a, room);
+    for (int k = 0; k < FILES; k++) {
         first[k].len = 0;
         put_bytes(&first[k], result_of(k));
     }
     bool same = call_with(b, room) == result;
-    for (int k = 0; k < OUTPUTS; k++)
+    for (int k = 0; k < FILES; k++)
         same = same && equal(&first[k], &results[k]);
     return same;
 }

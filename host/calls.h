@@ -1,4 +1,4 @@
-/* The thirteen calls for tests: on exact copies of the inputs at odd addresses, into used buffers, and with a look at what is left. */
+/* The fifteen calls for tests: on exact copies of the inputs at odd addresses, into used buffers, and with a look at what is left. */
 #ifndef CALLS_H
 #define CALLS_H
 
@@ -7,10 +7,10 @@
 
 enum call {
     OLD_SEARCH, CUT, FIRST_REPLY, CALL_LIST, SECOND_REPLY, JOIN, OLD_SEARCH_GROUPED, FIRST_REPLY_GROUPED, SECOND_REPLY_GROUPED,
-    FOUR_REPLIES, FOUR_REPLIES_GROUPED, DEAREST, GENERATE, CALL_COUNT
+    FOUR_REPLIES, FOUR_REPLIES_GROUPED, EIGHT_REPLIES, EIGHT_REPLIES_GROUPED, DEAREST, GENERATE, CALL_COUNT
 };
-/* All numbers are below NUMBERS. */
-enum { INPUTS = 4, VALUES = 3, OUTPUTS = MOWQACHI_VISIT_PATHS, NUMBERS = MOWQACHI_COUNTS + 1 };
+/* Of any call at most; files are those in all outputs together. All numbers are below NUMBERS. */
+enum { INPUTS = 4, VALUES = 3, OUTPUTS = MOWQACHI_VISIT_PATHS, FILES = MOWQACHI_DESKS, NUMBERS = MOWQACHI_COUNTS + 1 };
 
 /* The inputs of a call in its order; those that it has not are empty. Then its numbers: the site asked; or doors, outside targets and labels; or
    the state that it is lent, nodes and edges per node. */
@@ -47,23 +47,28 @@ bool reads_path(enum call call);
 /* Such a call asked with groups. */
 struct asked with_groups(const struct asked *a, struct span groups);
 
-/* Whether a call is a visit: its result has a number for each of its outputs. That of any other call is its number, for all of them. */
+/* How many paths a call takes as a bundle, its result having a number for each; 0 where it takes none, and its result is its number, for all its
+   files. */
+size_t most_paths(enum call call);
+/* Whether a call is one of these: a visit, with an output for each path, or the one reply of several desks. */
 bool is_visit(enum call call);
-/* The bundle of paths that a visit reads. */
+/* Whether the replies to all paths stand in one output. */
+bool shares_output(enum call call);
+/* The bundle of paths that such a call reads. */
 struct span paths_of(const struct asked *a);
-/* The number that a result has for an output. */
-uint32_t number_for(enum call call, uint32_t result, int output);
-/* The result that has this number for all outputs, as where the whole is refused. */
-uint32_t number_for_all(enum call call, uint32_t number);
+/* The number that a result has for a file: that of an output, or of a desk. */
+uint32_t number_for(enum call call, uint64_t result, int file);
+/* The result that has this number for all files, as where the whole is refused. */
+uint64_t number_for_all(enum call call, uint32_t number);
 
 /* The call itself. */
-uint32_t invoke(const struct asked *a, const struct buffers *b);
+uint64_t invoke(const struct asked *a, const struct buffers *b);
 /* The call with buffers of these lengths; stops the program where it leaves anything but what mowqachi.h says. */
-uint32_t call_with(const struct asked *a, struct room room);
-/* The same with buffers that are just long enough. What is in the first output, until the next call. */
-uint32_t call(const struct asked *a, struct span *found);
-/* The last call's file in an output, until the next call; empty after a refusal, and where it has no such output or no path for it. */
-struct span result_of(int output);
+uint64_t call_with(const struct asked *a, struct room room);
+/* The same with buffers that are just long enough. Its first file, until the next call. */
+uint64_t call(const struct asked *a, struct span *found);
+/* The last call's file in an output, or of a desk, until the next call; empty after a refusal, and where it has no such output or no path for it. */
+struct span result_of(int file);
 /* The state as the last call that was lent one gave it back. */
 uint32_t state_left(void);
 /* Whether two calls with the same outputs leave the same, result and all buffers, whose lengths are drawn and may be too short. */

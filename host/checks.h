@@ -1,5 +1,5 @@
 /* The checks of document 01, with document 02's groups, its number 14 and its bundles of paths, in their order, with the word at which one fails.
-   They share no code with the library, so that the two can be held against each other (agree.c, strays.c, visits.c); both read the documents as
+   They share no code with the library, so that the two can be held against each other (agree.c, strays.c, bundles.c); both read the documents as
    docs/DECISIONS.md does. */
 #ifndef CHECKS_H
 #define CHECKS_H

@@ -1,5 +1,6 @@
 #include "compare.h"
 
+#include <inttypes.h>
 #include <stdio.h>
 #include <stdlib.h>
 #include <string.h>
@@ -8,12 +9,14 @@
 #include "checks.h"
 #include "drafts.h"
 
-enum { WRITTEN_EVERY = 1000, GROUPED_EVERY = 4, VISITED_EVERY = 4, MOST_ASKED = 4 };
+enum { WRITTEN_EVERY = 1000, GROUPED_EVERY = 4, VISITED_EVERY = 4, MOST_ASKED = 5 };
 
 /* The kinds of the calls' results: the inspector must accept what the library writes. */
-static const unsigned result_kinds[CALL_COUNT] = {LIST, PART, FIRST, CALLS, SECOND, LIST, LIST, FIRST, SECOND, FIRST, FIRST, PART, PART};
+static const unsigned result_kinds[CALL_COUNT] = {
+    LIST, PART, FIRST, CALLS, SECOND, LIST, LIST, FIRST, SECOND, FIRST, FIRST, FIRST, FIRST, PART, PART};
 
-const char *const options[SUBJECTS] = {"--part", "--whole", "--path", "--calls", "--firsts", "--seconds", "--paths", "--cut", "--groups", "--asked"};
+const char *const options[SUBJECTS] = {"--part", "--whole", "--path", "--calls", "--firsts", "--seconds", "--paths", "--desks", "--cut", "--groups",
+                                       "--asked"};
 
 struct input {
     size_t len;
@@ -113,14 +116,14 @@ static struct verdict inspected(const struct sample *s)
     }
 }
 
-/* The numbers of a visit whose replies are within their limit. */
-static uint32_t inspected_visit(const struct asked *a)
+/* The numbers of a visit, or of desks, whose replies are within their limit, and have room. */
+static uint64_t inspected_visit(const struct asked *a)
 {
     struct span paths = paths_of(a);
-    struct verdict v = check_visit(a->in[0], a->call == FOUR_REPLIES ? our_groups : a->in[1], paths, MOWQACHI_VISIT_PATHS);
-    uint32_t result = number_for_all(a->call, v.number);
+    struct verdict v = check_visit(a->in[0], reads_path(a->call) ? our_groups : a->in[1], paths, most_paths(a->call));
+    uint64_t result = number_for_all(a->call, v.number);
     for (size_t k = 0; v.number == 0 && file_in(paths, k).len > 0; k++)
-        result |= (uint32_t)check_file(file_in(paths, k), PATH).number << 8 * k;
+        result |= (uint64_t)check_file(file_in(paths, k), PATH).number << 8 * k;
     return result;
 }
 
@@ -188,7 +191,8 @@ static int calls_for_path(struct span path, struct asked asked[MOST_ASKED])
     asked[1] = (struct asked){OLD_SEARCH, {lone_root, path}, {0}};
     asked[2] = (struct asked){SECOND_REPLY, {lone_part, path, no_calls(n_in(path))}, {0}};
     asked[3] = (struct asked){FOUR_REPLIES, {lone_part, path}, {0}};
-    return 4;
+    asked[4] = (struct asked){EIGHT_REPLIES, {lone_part, path}, {0}};
+    return 5;
 }
 
 /* The same with groups. */
@@ -209,7 +213,8 @@ static int calls_for(const struct sample *s, struct asked asked[MOST_ASKED])
         asked[0] = (struct asked){FIRST_REPLY, {a, path_of(0)}, {0}};
         asked[1] = (struct asked){SECOND_REPLY, {a, path_of(0), no_calls(0)}, {0}};
         asked[2] = (struct asked){FOUR_REPLIES, {a, path_of(0)}, {0}};
-        return 3;
+        asked[3] = (struct asked){EIGHT_REPLIES, {a, path_of(0)}, {0}};
+        return 4;
     case AS_WHOLE:
         asked[0] = (struct asked){OLD_SEARCH, {a, path_of(0)}, {0}};
         asked[1] = (struct asked){CUT, {a, no_cut(a)}, {0}};
@@ -220,6 +225,7 @@ static int calls_for(const struct sample *s, struct asked asked[MOST_ASKED])
     case AS_FIRSTS: asked[0] = (struct asked){CALL_LIST, {a}, {0}}; return 1;
     case AS_SECONDS: asked[0] = (struct asked){JOIN, {a}, {0}}; return 1;
     case AS_PATHS: asked[0] = (struct asked){FOUR_REPLIES, {lone_part, a}, {0}}; return 1;
+    case AS_DESKS: asked[0] = (struct asked){EIGHT_REPLIES, {lone_part, a}, {0}}; return 1;
     case AS_CUT: asked[0] = (struct asked){CUT, {a, b}, {s->site}}; return 1;
     default: asked[0] = (struct asked){s->files == INPUTS ? SECOND_REPLY_GROUPED : SECOND_REPLY, {a, b, c, input(3)}, {0}}; return 1;
     }
@@ -250,9 +256,10 @@ static _Noreturn void stop_at_inputs(void)
     exit(1);
 }
 
-static _Noreturn void disagree(const struct sample *s, unsigned theirs, unsigned ours)
+static _Noreturn void disagree(const struct sample *s, uint64_t theirs, uint64_t ours)
 {
-    printf("%s: the library gives %u (0x%x), the inspector %u (0x%x), for\n", options[s->subject], theirs, theirs, ours, ours);
+    printf("%s: the library gives %" PRIu64 " (0x%" PRIx64 "), the inspector %" PRIu64 " (0x%" PRIx64 "), for\n",
+           options[s->subject], theirs, theirs, ours, ours);
     stop_at_inputs();
 }
 
@@ -281,13 +288,13 @@ static void compare_alone(const struct sample *s, uint32_t number)
 }
 
 /* A call on the sample: its result, which is the inspector's too. */
-static uint32_t compare_call(const struct sample *s, const struct asked *asked)
+static uint64_t compare_call(const struct sample *s, const struct asked *asked)
 {
     struct span found;
-    uint32_t result = call(asked, &found), due = is_visit(asked->call) ? inspected_visit(asked) : inspected(s).number;
+    uint64_t result = call(asked, &found), due = is_visit(asked->call) ? inspected_visit(asked) : inspected(s).number;
     if (result != due)
         disagree(s, result, due);
-    for (int k = 0; k < OUTPUTS; k++) {
+    for (int k = 0; k < FILES; k++) {
         struct span file = result_of(k);
         struct verdict v = check_file(file, result_kinds[asked->call]);
         if (file.len > 0 && v.number != 0)
@@ -301,22 +308,22 @@ static uint32_t compare_call(const struct sample *s, const struct asked *asked)
 /* Whether a call is made: a visit, whose buffers take time, only now and then where the sample is no bundle of paths. */
 static bool is_made(const struct sample *s, const struct asked *asked)
 {
-    return s->subject == AS_PATHS || !is_visit(asked->call) || draw(VISITED_EVERY) == 0;
+    return s->subject == AS_PATHS || s->subject == AS_DESKS || !is_visit(asked->call) || draw(VISITED_EVERY) == 0;
 }
 
 /* The first number of a result that is not 0, if there is one. */
-static uint32_t first_refusal(uint32_t result)
+static uint32_t first_refusal(uint64_t result)
 {
-    while (result != 0 && mowqachi_number_at(result, 0) == 0)
+    while (result != 0 && mowqachi_desk_number(result, 0) == 0)
         result >>= 8;
-    return mowqachi_number_at(result, 0);
+    return mowqachi_desk_number(result, 0);
 }
 
-uint32_t compare(const struct sample *s)
+uint64_t compare(const struct sample *s)
 {
     struct asked asked[MOST_ASKED];
     int count = lay_out(s);
-    uint32_t result = 0;
+    uint64_t result = 0;
     for (int k = calls_for(s, asked) - 1; k >= 0; k--)
         if (is_made(s, &asked[k]))
             result = compare_call(s, &asked[k]);
@@ -327,11 +334,12 @@ uint32_t compare(const struct sample *s)
     return result;
 }
 
-void expect(const struct sample *s, uint32_t result)
+void expect(const struct sample *s, uint64_t result)
 {
-    uint32_t got = compare(s);
+    uint64_t got = compare(s);
     if (got != result) {
-        printf("%s: %u (0x%x) is due, the library gives %u (0x%x), for\n", options[s->subject], result, result, got, got);
+        printf("%s: %" PRIu64 " (0x%" PRIx64 ") is due, the library gives %" PRIu64 " (0x%" PRIx64 "), for\n",
+               options[s->subject], result, result, got, got);
         stop_at_inputs();
     }
 }

@@ -6,10 +6,10 @@
 #include <stddef.h>
 #include <stdint.h>
 
-enum { MOST = 8200, MOST_FILES = 6 };
+enum { MOST = 8200, MOST_FILES = 10 };
 
 /* What a sample is given as. */
-enum subject { AS_PART, AS_WHOLE, AS_PATH, AS_CALLS, AS_FIRSTS, AS_SECONDS, AS_PATHS, AS_CUT, AS_GROUPS, AS_ASKED, SUBJECTS };
+enum subject { AS_PART, AS_WHOLE, AS_PATH, AS_CALLS, AS_FIRSTS, AS_SECONDS, AS_PATHS, AS_DESKS, AS_CUT, AS_GROUPS, AS_ASKED, SUBJECTS };
 
 /* The inspector's options for them. */
 extern const char *const options[SUBJECTS];
@@ -38,9 +38,9 @@ void put_or(struct file *f, uint32_t label, size_t labels, size_t most);
 
 /* The library's number, or for a bundle of paths its result, with the number of each. Stops the program where the inspector's is another, or where a
    call that reads paths leaves something else than the one that is handed our groups, which some of them are held to. */
-uint32_t compare(const struct sample *s);
+uint64_t compare(const struct sample *s);
 /* The same, and stops the program where it is not this one. */
-void expect(const struct sample *s, uint32_t result);
+void expect(const struct sample *s, uint64_t result);
 
 /* Writes some of the samples from now on, and a list: number, option, files. */
 void write_into(const char *directory);

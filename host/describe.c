@@ -151,17 +151,17 @@ void print_verdict(struct verdict v, const char *unit, size_t count)
         printf("refused %u %s at the end: %s\n", v.number, number_name(v.number), v.why);
 }
 
-void print_stretch(size_t number, struct span bundle, struct span file)
+void print_stretch(const char *name, size_t number, struct span bundle, struct span file)
 {
     size_t words = words_of(file);
-    printf("path %zu: %zu word%s from word %zu on\n", number, words, words == 1 ? "" : "s", (size_t)(file.bytes - bundle.bytes) / 4);
+    printf("%s %zu: %zu word%s from word %zu on\n", name, number, words, words == 1 ? "" : "s", (size_t)(file.bytes - bundle.bytes) / 4);
 }
 
-void print_numbers(uint32_t numbers)
+void print_numbers(const char *name, uint64_t numbers, size_t count)
 {
-    printf("numbers of the paths:");
-    for (unsigned k = 0; k < MOWQACHI_VISIT_PATHS; k++)
-        printf("%s %u", k == 0 ? "" : ",", (unsigned)mowqachi_number_at(numbers, k));
+    printf("numbers of the %ss:", name);
+    for (unsigned k = 0; k < count; k++)
+        printf("%s %u", k == 0 ? "" : ",", (unsigned)mowqachi_desk_number(numbers, k));
     printf("\n");
 }
 

@@ -21,10 +21,10 @@ void print_words(struct span s, struct verdict v, const struct beside *beside);
 void print_groups(struct span s, struct verdict v);
 /* The last line of a report on so many words or bytes. */
 void print_verdict(struct verdict v, const char *unit, size_t count);
-/* Where a file of a bundle of paths stands, counted from 1. */
-void print_stretch(size_t number, struct span bundle, struct span file);
-/* The numbers of the paths of a visit, and of those that it lacks. */
-void print_numbers(uint32_t numbers);
+/* Where a file of a bundle of paths, or of a reply for several desks, stands; its name and its place, counted from 1. */
+void print_stretch(const char *name, size_t number, struct span bundle, struct span file);
+/* The numbers of so many paths or desks, and of those that there are not. */
+void print_numbers(const char *name, uint64_t numbers, size_t count);
 /* An accepted path as an expression. */
 void print_expression(struct span path);
 /* What an accepted part has. */

@@ -1,5 +1,5 @@
-/* The inspector: a file of document 01, or document 02's groups or bundle of paths, word by word, and the first check that fails. Its exit code is
-   the refusal's number, 0 where all is accepted, and 64 where there is nothing to inspect. */
+/* The inspector: a file of document 01, or document 02's groups, bundle of paths or one reply for several desks, word by word, and the first check
+   that fails. Its exit code is the refusal's number, 0 where all is accepted, and 64 where there is nothing to inspect. */
 #include <ctype.h>
 #include <errno.h>
 #include <stdio.h>
@@ -20,6 +20,8 @@ static const char usage[] =
     "       inspect [--hex] --cut WHOLE CUT        a cut list beside its whole\n"
     "       inspect [--hex] --groups GROUPS [PATH] eight words for the groups; a path with these groups\n"
     "       inspect [--hex] --paths [GROUPS] PATHS a bundle of paths for one visit: its split, and each path by itself\n"
+    "       inspect [--hex] --desks [GROUPS] PATHS a bundle of paths of several desks, in the same way\n"
+    "       inspect [--hex] --served NUMBERS FILE  one reply for several desks, by their numbers as the call gave them: each desk's own\n"
     "       inspect [--hex] --asked PART [GROUPS] PATH LIST\n"
     "                                              a call list beside the part and path of the site asked\n"
     "       inspect [--hex] --longest PART PATH    how long a first reply can be, by doors, outside targets and labels\n"
@@ -32,8 +34,8 @@ static const char usage[] =
     "       --files                                files one after another, each by itself\n"
     "Without GROUPS a path has our groups.\n"
     "--hex: the input is text, words in hexadecimal (a cut list: numbers of bytes). FILE may be -, for standard input.\n"
-    "The exit code is the first refusal's number, 0 where all is accepted, be two parts alike or not and a plant generated or not, and 64 where\n"
-    "there is nothing to inspect.\n";
+    "The exit code is the first refusal's number, 0 where all is accepted, be two parts alike or not, a plant generated or not, and desks that were\n"
+    "refused or not, and 64 where there is nothing to inspect.\n";
 
 static _Noreturn void give_up(const char *what, const char *why)
 {
@@ -86,18 +88,36 @@ static struct span read_hex(const char *name, size_t width)
     return (struct span){bytes, len};
 }
 
+/* A number in so many bytes. */
+static struct span in_bytes(const char *text, uint64_t number, size_t len)
+{
+    uint8_t *bytes = malloc(len);
+    if (bytes == NULL)
+        give_up(text, strerror(errno));
+    for (size_t k = 0; k < len; k++)
+        bytes[k] = (uint8_t)(number >> 8 * k);
+    return (struct span){bytes, len};
+}
+
 /* The state of a generator, as a word. */
 static struct span read_state(const char *text)
 {
     uint32_t state;
     if (!read_number(text, &state))
         give_up(text, "is no state, a number of 32 bits, decimal or behind 0x");
-    uint8_t *bytes = malloc(4);
-    if (bytes == NULL)
-        give_up(text, strerror(errno));
-    for (int k = 0; k < 4; k++)
-        bytes[k] = (uint8_t)(state >> 8 * k);
-    return (struct span){bytes, 4};
+    return in_bytes(text, state, 4);
+}
+
+/* The numbers of several desks, a byte each. */
+static struct span read_numbers(const char *text)
+{
+    uint64_t numbers;
+    if (!read_wide(text, &numbers))
+        give_up(text, "is no result of a call for desks, a number of 64 bits, decimal or behind 0x");
+    for (unsigned k = 0; k < MOWQACHI_DESKS; k++)
+        if (mowqachi_desk_number(numbers, k) > MOWQACHI_PATHS)
+            give_up(text, "has a byte that is no number of a desk");
+    return in_bytes(text, numbers, MOWQACHI_DESKS);
 }
 
 /* The report of one file: its words, what there is to say of an accepted one, and the verdict. */
@@ -226,39 +246,45 @@ static unsigned as_groups(const struct span *in)
     return number != 0 ? number : report_beside(in[1], check_file(in[1], PATH), &(struct beside){.groups = groups});
 }
 
+/* What takes a bundle of paths: how each of them is called, and how many there are at most. */
+struct taker {
+    const char *name;
+    size_t most;
+};
+
 /* How far a bundle of paths can be split: the files that are as long as their headers say. */
-static void print_split(struct span paths)
+static void print_split(struct span paths, const struct taker *taker)
 {
     struct span rest = paths;
-    for (size_t number = 1; number <= MOWQACHI_VISIT_PATHS && words_of(rest) > 0; number++) {
+    for (size_t number = 1; number <= taker->most && words_of(rest) > 0; number++) {
         struct span one = front_of(rest);
         if (length_of(word_at(one, 0)) != words_of(one))
             return;
-        print_stretch(number, paths, one);
+        print_stretch(taker->name, number, paths, one);
         rest = behind(rest, one);
     }
 }
 
 /* The paths of a bundle that can be split, each by itself, and then their numbers and the first refusal. */
-static unsigned report_each(struct span paths, const struct beside *beside)
+static unsigned report_each(struct span paths, const struct taker *taker, const struct beside *beside)
 {
     struct verdict first = {0, 0, NULL};
-    uint32_t numbers = 0;
+    uint64_t numbers = 0;
     for (size_t k = 0; file_in(paths, k).len > 0; k++) {
         struct span one = file_in(paths, k);
         struct verdict v = check_file(one, PATH);
-        print_stretch(k + 1, paths, one);
-        numbers |= (uint32_t)report_beside(one, v, beside) << 8 * k;
+        print_stretch(taker->name, k + 1, paths, one);
+        numbers |= (uint64_t)report_beside(one, v, beside) << 8 * k;
         printf("\n");
         if (first.number == 0)
             first = (struct verdict){v.number, k + 1, v.why};
     }
-    print_numbers(numbers);
-    print_verdict(first, "path", SIZE_MAX);
+    print_numbers(taker->name, numbers, taker->most);
+    print_verdict(first, taker->name, SIZE_MAX);
     return first.number;
 }
 
-static unsigned as_paths(const struct span *in)
+static unsigned report_paths(const struct span *in, const struct taker *taker)
 {
     uint32_t groups[MOWQACHI_GROUP_COUNT];
     bool grouped = in[1].bytes != NULL;
@@ -267,11 +293,85 @@ static unsigned as_paths(const struct span *in)
     unsigned number = read_groups(grouped ? in[0] : our_groups, groups);
     if (number != 0)
         return number;
-    struct verdict v = check_paths(paths, MOWQACHI_VISIT_PATHS);
+    struct verdict v = check_paths(paths, taker->most);
     if (v.number == 0)
-        return report_each(paths, &beside);
-    print_split(paths);
+        return report_each(paths, taker, &beside);
+    print_split(paths, taker);
     return report_beside(paths, v, &beside);
+}
+
+static unsigned as_paths(const struct span *in) { return report_paths(in, &(struct taker){"path", MOWQACHI_VISIT_PATHS}); }
+static unsigned as_desks(const struct span *in) { return report_paths(in, &(struct taker){"desk", MOWQACHI_DESKS}); }
+
+/* An output up to its last word that is not zero, as no first reply ends with such a word; bytes that are not in fours stay. */
+static struct span without_zeros(struct span out)
+{
+    while (out.len % 4 == 0 && out.len > 0 && word_at(out, words_of(out) - 1) == 0)
+        out.len -= 4;
+    return out;
+}
+
+/* One desk's share of what is left of an output, and where that goes on. A reply that its header cannot bound takes all that is left. */
+static unsigned report_desk(struct span out, struct span *rest, unsigned desk, unsigned number)
+{
+    struct span one = front_of(*rest);
+    if (number != 0) {
+        const char *why = number == MOWQACHI_RESULT ? ": over 512 words, and without room beside the others, or over 4096 by itself" : "";
+        printf("desk %u: refused %u %s%s\n", desk, number, number_name(number), why);
+        return 0;
+    }
+    if (rest->len == 0) {
+        printf("desk %u: no path\n", desk);
+        return 0;
+    }
+    print_stretch("desk", desk, out, one);
+    *rest = behind(*rest, one);
+    return report(one, check_file(one, FIRST));
+}
+
+/* What an output holds of short replies and of long ones. */
+static void print_shares(struct span out)
+{
+    size_t words[2] = {0, 0};
+    for (struct span rest = out; rest.len > 0; rest = behind(rest, front_of(rest)))
+        words[words_of(front_of(rest)) > MOWQACHI_SHORT_WORDS] += words_of(front_of(rest));
+    printf("words of short replies %zu, of long ones %zu, together %zu of %d\n", words[0], words[1], words[0] + words[1], MOWQACHI_REPLY_WORDS);
+}
+
+/* What is wrong with an output beside these numbers, all of its files being first replies of which `rest` is left over. */
+static struct verdict check_served(struct span out, struct span rest, const uint8_t *numbers, unsigned replies)
+{
+    size_t due = 0;
+    for (unsigned k = 0, accepted = 0; k < MOWQACHI_DESKS; k++) {
+        accepted += numbers[k] == 0;
+        due = numbers[k] != 0 ? accepted : due;
+    }
+    if (replies < due)
+        return (struct verdict){2, words_of(out), "a desk whose number is 0 has no reply, and a later one has another number"};
+    if (rest.len > 0)
+        return (struct verdict){2, words_of(out) - words_of(rest), "there are words behind the replies of all desks"};
+    if (words_of(out) > MOWQACHI_REPLY_WORDS)
+        return (struct verdict){2, MOWQACHI_REPLY_WORDS, "there are more words than one reply holds"};
+    return (struct verdict){0, 0, NULL};
+}
+
+/* The numbers, a byte for each desk, and the output. */
+static unsigned as_served(const struct span *in)
+{
+    struct span out = without_zeros(in[1]), rest = out;
+    unsigned replies = 0;
+    for (unsigned k = 0; k < MOWQACHI_DESKS; k++) {
+        bool has_reply = in[0].bytes[k] == 0 && rest.len > 0;
+        unsigned number = report_desk(out, &rest, k + 1, in[0].bytes[k]);
+        if (number != 0)
+            return number;
+        replies += has_reply;
+        printf("%s", has_reply ? "\n" : "");
+    }
+    print_shares(out);
+    struct verdict v = check_served(out, rest, in[0].bytes, replies);
+    print_verdict(v, "word", words_of(out));
+    return v.number;
 }
 
 /* The inputs in the order in which a second reply is asked for: the groups, if there are any, stand between part and path. */
@@ -339,7 +439,7 @@ static unsigned as_generated(const struct span *in)
     return 0;
 }
 
-/* What an option asks for, and how many files it takes, a state being one of them; those that are not given are NULL. */
+/* What an option asks for, and how many files it takes, a state or numbers being one of them; those that are not given are NULL. */
 static const struct mode {
     const char *option;
     int least, most;
@@ -347,8 +447,9 @@ static const struct mode {
 } modes[] = {
     {"--part", 1, 1, as_part}, {"--whole", 1, 1, as_whole}, {"--path", 1, 1, as_path}, {"--calls", 1, 1, as_calls}, {"--list", 1, 1, as_list},
     {"--firsts", 1, 1, as_firsts}, {"--seconds", 1, 1, as_seconds}, {"--files", 1, 1, as_files}, {"--dot", 1, 1, as_picture},
-    {"--cut", 2, 2, as_cut}, {"--groups", 1, 2, as_groups}, {"--paths", 1, 2, as_paths}, {"--asked", 3, MOST_FILES, as_asked},
-    {"--longest", 2, 2, as_longest}, {"--shared", 1, 2, as_shared}, {"--generated", 2, 2, as_generated},
+    {"--cut", 2, 2, as_cut}, {"--groups", 1, 2, as_groups}, {"--paths", 1, 2, as_paths}, {"--desks", 1, 2, as_desks},
+    {"--served", 2, 2, as_served}, {"--asked", 3, MOST_FILES, as_asked}, {"--longest", 2, 2, as_longest}, {"--shared", 1, 2, as_shared},
+    {"--generated", 2, 2, as_generated},
 };
 
 static struct mode mode_of(const char *option)
@@ -364,6 +465,8 @@ static struct span read_input(const struct mode *mode, int k, const char *text, 
 {
     if (mode->run == as_generated && k == 0)
         return read_state(text);
+    if (mode->run == as_served && k == 0)
+        return read_numbers(text);
     bool bytes = mode->run == as_cut && k == 1;
     return hex ? read_hex(text, bytes ? 1 : 4) : read_bytes(text);
 }

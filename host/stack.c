@@ -17,7 +17,7 @@ enum { STACK = 65536, GUARD = 4096, PAINT = 0xc3, RED_ZONE = 128, BOUND = 1536, 
 /* A call to be made on the small stack, and what came of it. */
 struct job {
     struct asked asked;
-    uint32_t expected, number;
+    uint64_t expected, number;
     size_t depth;
     uint8_t *low;       /* of the stack */
     uint32_t state;     /* that is lent */
@@ -152,7 +152,7 @@ static void fill_words(struct draft *f, uint32_t header, uint32_t first)
 }
 
 /* A call, and where it reads paths also the one with groups. */
-static void add(enum call call, uint32_t expected, struct span a, struct span b, struct span c)
+static void add(enum call call, uint64_t expected, struct span a, struct span b, struct span c)
 {
     struct asked asked = {call, {a, b, c}, {0}};
     jobs[job_count++] = (struct job){.asked = asked, .expected = expected};
@@ -162,7 +162,7 @@ static void add(enum call call, uint32_t expected, struct span a, struct span b,
 
 static void add_searches(void)
 {
-    static struct draft loops, halted, ring, reply, outside, ors, thens, four, calls;
+    static struct draft loops, halted, ring, reply, outside, ors, thens, calls;
     static uint8_t cuts[MOWQACHI_PART_WORDS];
     const struct span none = {NULL, 0};
     fill_part(&loops, 2, 1365, 0);
@@ -190,14 +190,40 @@ static void add_searches(void)
     add(SECOND_REPLY, 0, span_of(&halted), span_of(&ors), span_of(&calls));
     add(SECOND_REPLY, 0, span_of(&ring), span_of(&thens), span_of(&calls));
     add(SECOND_REPLY, 0, span_of(&outside), span_of(&ors), span_of(&calls));
-    put_bytes(&four, span_of(&ors));
-    put_bytes(&four, span_of(&thens));
-    put_bytes(&four, span_of(&ors));
-    put_bytes(&four, span_of(&thens));
+}
+
+/* Paths of full size, ors and thens by turns. */
+static void fill_bundle(struct draft *f, size_t paths)
+{
+    struct draft path;
+    f->len = 0;
+    for (size_t k = 0; k < paths; k++) {
+        fill_path(&path, k % 2 == 0 ? 0x60000002 : 0x60000001);
+        put_bytes(f, span_of(&path));
+    }
+}
+
+/* Visits and desks. Replies of `short_ones` have 512 words, so that those of eight desks fill the output; of those with 1,366 words two fit. */
+static void add_visits(void)
+{
+    static struct draft loops, halted, short_ones, reply, outside, four, eight;
+    const struct span none = {NULL, 0};
+    fill_part(&loops, 2, 1365, 0);
+    fill_part(&halted, 2, 1365, 3);
+    fill_part(&short_ones, 7, 511, 0);
+    fill_part(&reply, 3, 60000, 0);
+    fill_outside(&outside);
+    fill_bundle(&four, MOWQACHI_VISIT_PATHS);
+    fill_bundle(&eight, MOWQACHI_DESKS);
     add(FOUR_REPLIES, 0, span_of(&loops), span_of(&four), none);
     add(FOUR_REPLIES, 0, span_of(&halted), span_of(&four), none);
     add(FOUR_REPLIES, 0x0f0f0f0f, span_of(&reply), span_of(&four), none);
     add(FOUR_REPLIES, 0x0f0f0f0f, span_of(&outside), span_of(&four), none);
+    add(EIGHT_REPLIES, 0, span_of(&short_ones), span_of(&eight), none);
+    add(EIGHT_REPLIES, 0x0f0f0f0f0f0f0000, span_of(&loops), span_of(&eight), none);
+    add(EIGHT_REPLIES, 0x0f0f0f0f0f0f0000, span_of(&halted), span_of(&eight), none);
+    add(EIGHT_REPLIES, 0x0f0f0f0f0f0f0f0f, span_of(&reply), span_of(&eight), none);
+    add(EIGHT_REPLIES, 0x0f0f0f0f0f0f0f0f, span_of(&outside), span_of(&eight), none);
 }
 
 static void add_bundles(void)
@@ -292,7 +318,7 @@ static void report(void)
         for (int k = 0; k < job_count; k++)
             if (jobs[k].asked.call == (enum call)c && jobs[k].depth > deepest)
                 deepest = jobs[k].depth;
-        printf("%-20s %5zu bytes of stack\n", call_names[c], deepest);
+        printf("%-21s %5zu bytes of stack\n", call_names[c], deepest);
     }
 }
 
@@ -312,6 +338,7 @@ int main(void)
 {
     static struct job again[MOST_JOBS];
     add_searches();
+    add_visits();
     add_bundles();
     add_counts();
     for (int k = 0; k < job_count; k++) {

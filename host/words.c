@@ -1,19 +1,27 @@
 #include "words.h"
 
-#include <limits.h>
+#include <errno.h>
 #include <stdlib.h>
 #include <string.h>
 
 #include "mowqachi.h"
 
-bool read_number(const char *text, uint32_t *number)
+bool read_wide(const char *text, uint64_t *number)
 {
     bool hex = strncmp(text, "0x", 2) == 0;
     const char *digits = text + (hex ? 2 : 0);
     size_t count = strspn(digits, hex ? "0123456789abcdefABCDEF" : "0123456789");
-    unsigned long long value = count > 0 && digits[count] == '\0' ? strtoull(digits, NULL, hex ? 16 : 10) : ULLONG_MAX;
-    *number = (uint32_t)value;
-    return value <= UINT32_MAX;
+    errno = 0;
+    *number = strtoull(digits, NULL, hex ? 16 : 10);
+    return count > 0 && digits[count] == '\0' && errno == 0;
+}
+
+bool read_number(const char *text, uint32_t *number)
+{
+    uint64_t wide;
+    bool read = read_wide(text, &wide);
+    *number = (uint32_t)wide;
+    return read && wide <= UINT32_MAX;
 }
 
 size_t words_of(struct span s)

@@ -25,8 +25,9 @@ struct nodes {
     uint8_t bits[8192];
 };
 
-/* Whether the text is a number of 32 bits: decimal digits, or hexadecimal ones behind 0x. */
+/* Whether the text is a number of 32 bits, or of 64: decimal digits, or hexadecimal ones behind 0x. */
 bool read_number(const char *text, uint32_t *number);
+bool read_wide(const char *text, uint64_t *number);
 size_t words_of(struct span s);
 uint32_t word_at(struct span s, size_t i);
 uint32_t bits(uint32_t w, unsigned high, unsigned low);

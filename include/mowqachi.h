@@ -1,6 +1,7 @@
 /* The split link search, for a C11 or C++ host. docs/CALLS.md tells which call belongs where, docs/FORMATS.md what every file, trip and
    number is: document 01, and of document 02 the requests 1, labels outside a range, 2, generated plants, 3, groups of the caller's own, 5, links
-   that nobody walks, 6, four paths in one visit, 7, stopped nodes, 9, eight operands waiting, and 13, the dearest reply.
+   that nobody walks, 6, four paths in one visit, 7, stopped nodes, 9, eight operands waiting, 11, one reply for eight desks, and 13, the dearest
+   reply.
 
    Buffers. A length is in bytes. Any alignment will do. Inputs are only read, and may overlap one another. Outputs and the working buffer overlap
    nothing: neither one another nor an input. A pointer is never null: where a length is 0, pass the address of any object. What outputs and working
@@ -9,16 +10,18 @@
    inputs or touches its other buffers or the state.
 
    After a call. A call gives one number, for all its outputs; but a visit, a call for several paths, gives four, one for each output
-   (mowqachi_number_at). At 0 an output begins with its result, a file whose first word tells its length (mowqachi_file_bytes), and is zero past it.
-   At any other number it is zero from end to end, and so is at 0 an output for which a visit has no path. The working buffer is zero after every
-   call, to its full length. A lent state has moved on at 0, and is as it was at any other number.
+   (mowqachi_number_at), and one for several desks eight, one for each desk (mowqachi_desk_number). At 0 an output begins with its result, a file
+   whose first word tells its length (mowqachi_file_bytes), and is zero past it. At any other number it is zero from end to end, and so is at 0 an
+   output for which a visit has no path. The one output of several desks begins with the replies of those whose number is 0, one behind another
+   (mowqachi_desk_reply), and is zero past them. The working buffer is zero after every call, to its full length. A lent state has moved on at 0, and
+   is as it was at any other number.
 
    Order of checks: 1, of any buffer; then the inputs in the order of the parameters; then 15. In one input 2, 3, 4, then word by word 5, 10, 6,
    7, 9, then at its end 5, 7, 8, 9. A cut list has only 11, and so has the site asked, after it. Groups have only 16. Counts of a dearest part and
    path have only 21, and those of a generated plant only 11; a state has none. In a bundle of replies 2, then file by file as above, then over all
    files 12, 7, 13, and 14 once it is known which pairs are called, however many. A call list by itself, then 12 against the path and 14 against the
-   part. A bundle of paths has only 17; what comes behind that, the checks of each path and its 15, is this path's alone. The first check that fails
-   gives the number.
+   part. A bundle of paths has only 17; what comes behind that, the checks of each path and its 15, is this path's alone. Of several desks a 15 may
+   also say that the others left no room. The first check that fails gives the number.
 
    Labels outside a range. A path's label word of sort 2 (bits 27..24) has a range's fields, the high end in 23..12 and the low end in 11..0,
    and holds the labels below the low end and those above the high one: any label but 5 is 0x52005005. The low end is not above the high one.
@@ -57,7 +60,8 @@ extern "C" {
 /* The bytes of an output, at least. */
 #define MOWQACHI_PART_BYTES 16384  /* mowqachi_cut; the part of mowqachi_dearest; mowqachi_generate */
 #define MOWQACHI_PATH_BYTES 256    /* the path of mowqachi_dearest */
-#define MOWQACHI_REPLY_BYTES 16384 /* mowqachi_first_reply, mowqachi_second_reply, each of four of mowqachi_four_replies, and with groups */
+#define MOWQACHI_REPLY_BYTES 16384 /* mowqachi_first_reply, mowqachi_second_reply, each of four of mowqachi_four_replies, the one of
+                                      mowqachi_eight_replies, and with groups */
 #define MOWQACHI_CALLS_BYTES 16384 /* mowqachi_call_list */
 #define MOWQACHI_LIST_BYTES 32768  /* mowqachi_old_search, and with groups; mowqachi_join */
 
@@ -78,8 +82,12 @@ extern "C" {
 #define MOWQACHI_PATH_LABELS 15
 #define MOWQACHI_WAITING 8
 
-/* In a bundle of paths: paths at most. There is at least one. */
+/* In a bundle of paths: paths at most, in a visit and for desks, each of which has one. There is at least one. */
 #define MOWQACHI_VISIT_PATHS 4
+#define MOWQACHI_DESKS 8
+
+/* The words of a first reply that is short, at most: as many as each of eight desks has room for. */
+#define MOWQACHI_SHORT_WORDS 512
 
 /* In a generated plant: nodes at most, and edges drawn for each at most. Both are 1 at least. */
 #define MOWQACHI_GENERATED_NODES 256
@@ -102,7 +110,7 @@ enum mowqachi_number {
     MOWQACHI_BUNDLE = 12,  /* site twice or different n in a bundle; call list's n not the path's */
     MOWQACHI_TWICE = 13,   /* a door or answer node in two files */
     MOWQACHI_DOOR = 14,    /* a pair of the call list's least set has a node that is no door of the bundle; a called node of the part is no door */
-    MOWQACHI_RESULT = 15,  /* result over its limit */
+    MOWQACHI_RESULT = 15,  /* result over its limit; of several desks, also a first reply over 512 words for which there is no room */
     MOWQACHI_GROUPS = 16,  /* groups not just eight words, or with a word that is no range or has its low end above its high end */
     MOWQACHI_PATHS = 17,   /* bundle of paths: none, too many, over 8,192 words, or headers' lengths that do not use up its bytes, such as 0 */
     MOWQACHI_COUNTS = 21   /* dearest part and path: a count that is 0, over 15 labels, doors and targets over 65,536, or a part over 4,096 words */
@@ -130,6 +138,25 @@ static inline size_t mowqachi_file_bytes(const uint8_t *file)
 static inline uint32_t mowqachi_number_at(uint32_t numbers, unsigned index)
 {
     return numbers >> 8 * index & 0xff;
+}
+
+/* Of what several desks get: the number of the desk at this index, from 0 to 7, in the same way. */
+static inline uint32_t mowqachi_desk_number(uint64_t numbers, unsigned index)
+{
+    return (uint32_t)(numbers >> 8 * index & 0xff);
+}
+
+/* The reply of the desk at this index, from 0 to 7, in the output of all desks; NULL where it has none, as its number is not 0 or there is no path of
+   it. It stands behind the replies of the desks before it whose numbers are 0. Its own length, and that of each of these, is mowqachi_file_bytes. */
+static inline const uint8_t *mowqachi_desk_reply(const uint8_t *out, uint64_t numbers, unsigned index)
+{
+    size_t at = 0;
+    for (unsigned k = 0; k < index && at < MOWQACHI_REPLY_BYTES; k++)
+        if (mowqachi_desk_number(numbers, k) == MOWQACHI_ACCEPTED)
+            at += mowqachi_file_bytes(out + at);
+    if (mowqachi_desk_number(numbers, index) != MOWQACHI_ACCEPTED || at >= MOWQACHI_REPLY_BYTES || mowqachi_file_bytes(out + at) == 0)
+        return NULL;
+    return out + at;
 }
 
 /* The old search: the final list of a whole plant and a path. A stopped root gives the empty list. Output: MOWQACHI_LIST_BYTES. */
@@ -194,6 +221,23 @@ uint32_t mowqachi_four_replies_grouped(const uint8_t *part, size_t part_len, con
                                        uint8_t *out1, size_t out1_len, uint8_t *out2, size_t out2_len,
                                        uint8_t *out3, size_t out3_len, uint8_t *out4, size_t out4_len,
                                        uint8_t *work, size_t work_len);
+
+/* First trip, at a site, for up to eight desks that share one reply of 4,096 words. Their paths are a bundle, as in a visit, a path of each desk in
+   the order of asking. A desk has its number (mowqachi_desk_number) and, at 0, the first reply that mowqachi_first_reply gives for the part and its
+   path alone. The output has these replies one behind another in the order of asking, and is zero past them: mowqachi_desk_reply finds a desk's own.
+   A path that is refused has the number that it has alone, 2, 3, 5 or 9, and takes no room; a reply that is over 4,096 words alone is 15. Of the
+   others, those of at most MOWQACHI_SHORT_WORDS words are all put in, whatever the other desks ask. Of the longer ones, in the order of asking, each
+   is put in if all short ones, also those asked later, the longer ones that are in already and itself have at most 4,096 words together; if not, its
+   desk gets 15, and it takes no room, so that a later one may still fit. Past the last path numbers are 0 and nothing stands. What refuses the whole
+   is all eight numbers, and the output is zero: 1, of the output or the working buffer; then the part's; then 17 of the bundle, as in a visit, but
+   that eight paths are taken. The part is checked once. Output: MOWQACHI_REPLY_BYTES. */
+uint64_t mowqachi_eight_replies(const uint8_t *part, size_t part_len, const uint8_t *paths, size_t paths_len,
+                                uint8_t *out, size_t out_len, uint8_t *work, size_t work_len);
+
+/* The same with groups of the caller's own for all desks: 16 refuses the whole, between the part's numbers and 17. Output: MOWQACHI_REPLY_BYTES. */
+uint64_t mowqachi_eight_replies_grouped(const uint8_t *part, size_t part_len, const uint8_t *groups, size_t groups_len,
+                                        const uint8_t *paths, size_t paths_len,
+                                        uint8_t *out, size_t out_len, uint8_t *work, size_t work_len);
 
 /* For planners: the dearest part and path of so many doors, outside targets and labels. The part is of site 0 and without root; its nodes 0 to
    doors - 1 are doors, each with a link of label 0 to each of the `targets` nodes after them: 1 + doors * (1 + targets) words. The path is a star of

@@ -2,7 +2,7 @@
 //! those that its own links lead to and those of the components behind it. So each pair is left once, and not once for each door and state.
 use super::graph::graph;
 use crate::inputs::Ask;
-use crate::plain::{door_words, part, path, settle, Automaton, Graph};
+use crate::plain::{door_words, part, path, settle, Automaton, Graph, LIMIT};
 use crate::words::*;
 
 const NONE: u32 = u32::MAX;
@@ -76,7 +76,7 @@ impl<'a> Components<'a> {
         reached.sort_unstable();
         reached.dedup();
         // some door's row would have as many
-        if reached.len() > 4096 {
+        if reached.len() > LIMIT {
             return Err(15);
         }
         self.outside.push(reached);
@@ -110,12 +110,12 @@ impl<'a> Components<'a> {
 }
 
 pub fn first_reply(ask: &Ask, out: &mut [u8], work: &mut [u8]) -> u32 {
-    settle(4096, out, work, || {
+    settle(LIMIT, out, work, || {
         let ws = part(&ask.file)?;
         let a = path(&ask.path, &OURS)?;
         let graph = graph(&ws, &a);
         let mut components = Components::new(&graph, &a);
-        door_words(&ws, &a, &graph, |i, q, list| {
+        door_words(&ws, &a, &graph, LIMIT, |i, q, list| {
             let reached = components.reached(16 * i + q as usize)?;
             if !reached.is_empty() {
                 list.push(ROW | q);

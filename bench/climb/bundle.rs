@@ -6,7 +6,7 @@ use crate::words::*;
 #[derive(Clone)]
 pub struct Bundle {
     size: usize,
-    number: u32,
+    number: u64,
     /// The doors of each file, in order.
     files: Vec<Vec<Door>>,
 }

@@ -1,11 +1,13 @@
 //! Heavy inputs of each call, of about a given number of words or nodes, valid but for those that a number is named for.
 mod bundles;
+mod desks;
 mod parts;
 mod paths;
 mod visits;
 
 use crate::plain::{dear_part, dear_path};
 use crate::words::{bytes, OURS};
+pub use desks::{eight_replies, eight_replies_of_groups};
 use parts::Doors;
 use std::cell::Cell;
 pub use visits::{four_replies, four_replies_of_groups};
@@ -16,7 +18,7 @@ pub struct Ask {
     pub file: Vec<u8>,
     /// Read by the grouped calls alone.
     pub groups: Vec<u8>,
-    /// A path, or the bundle that a visit hands in.
+    /// A path, or the bundle that a visit or desks hand in.
     pub path: Vec<u8>,
     /// The paths of that bundle, each by itself.
     pub paths: Vec<Vec<u8>>,
@@ -29,8 +31,8 @@ pub struct Ask {
     pub plant: [u32; 2],
     /// The state that is lent for it. Each call goes on from where the one before left it, so that no two draw the same plant.
     pub state: Cell<u32>,
-    /// What the call must answer.
-    pub number: u32,
+    /// What the call must answer: its number, or its numbers, one to a byte.
+    pub number: u64,
 }
 
 pub struct Shape {

@@ -80,7 +80,11 @@ pub fn outward(size: usize) -> Vec<u32> {
 /// As many doors as a reply of that size holds with a row of one reach word each, each with a link 0 of its own out of the part; the other
 /// nodes have no links.
 pub fn doorways(size: usize) -> Vec<u32> {
-    let doors = (size as u32 - 1) / 3;
+    doorways_of(size, (size as u32 - 1) / 3)
+}
+
+/// The same with so many doors.
+pub fn doorways_of(size: usize, doors: u32) -> Vec<u32> {
     let mut ws = vec![0];
     ws.extend((0..doors).flat_map(|x| [node_word(x, x == 0, Doors::All), edge(0, 30_000 + x)]));
     ws.extend((doors..size as u32 - 1 - doors).map(|x| node_word(x, false, Doors::Root)));

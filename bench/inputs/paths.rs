@@ -27,6 +27,13 @@ pub fn any_label(turn: u32) -> Vec<u32> {
     seal(ws)
 }
 
+/// A star of that or: every state has a row.
+pub fn any_label_star(turn: u32) -> Vec<u32> {
+    let mut ws = any_label(turn);
+    ws.push(STAR);
+    seal(ws)
+}
+
 /// A star of an or of fifteen full ranges.
 pub fn full_ranges() -> Vec<u32> {
     star_of_or((0..15).map(|_| range(0, 4095)))
@@ -68,7 +75,7 @@ pub fn eight_waiting(path: Vec<u32>) -> Vec<u32> {
     seal([&[0], &labels[..8], &operators[..7], &labels[8..], &operators[7..]].concat())
 }
 
-/// The path without its last two words: two operands are left (9).
+/// The path, an operator and a star at its end, without these: two operands are left (9).
 pub fn unfinished(path: Vec<u32>) -> Vec<u32> {
     seal(path[..path.len() - 2].to_vec())
 }
@@ -79,11 +86,33 @@ pub fn foreign(mut path: Vec<u32>) -> Vec<u32> {
     path
 }
 
-/// Document 01's own path, 5 then (6 then 5)*, and three more over its labels: 5 then 6 then 5, the empty word, and (5 or 6)*.
-pub fn document_01() -> [Vec<u32>; 4] {
+/// The path with a label word of a sort that there is not (5).
+pub fn unsorted(mut path: Vec<u32>) -> Vec<u32> {
+    path[1] |= 3 << 24;
+    path
+}
+
+/// The path and stars behind it, 65 words in all (2).
+pub fn overlong(mut path: Vec<u32>) -> Vec<u32> {
+    path.resize(65, STAR);
+    seal(path)
+}
+
+/// Document 01's own path, 5 then (6 then 5)*, and seven more over its labels: 5 then 6 then 5, the empty word, (5 or 6)*, 5, 6, 5* and
+/// (5 then 6)*.
+pub fn document_01() -> [Vec<u32>; 8] {
     let (five, six) = (range(5, 5), range(6, 6));
-    [vec![0, five, six, five, THEN, STAR, THEN], vec![0, five, six, THEN, five, THEN], vec![0, EMPTY], vec![0, five, six, OR, STAR]]
-        .map(seal)
+    [
+        vec![0, five, six, five, THEN, STAR, THEN],
+        vec![0, five, six, THEN, five, THEN],
+        vec![0, EMPTY],
+        vec![0, five, six, OR, STAR],
+        vec![0, five],
+        vec![0, six],
+        vec![0, five, STAR],
+        vec![0, five, six, THEN, STAR],
+    ]
+    .map(seal)
 }
 
 /// A star of an or of fifteen times the one label that no link of `parts::outward` has.

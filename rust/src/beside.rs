@@ -2,6 +2,7 @@
 
 use crate::calls;
 use crate::evaluation::dearest::{Counts, Rooms};
+use crate::evaluation::desks::DESKS;
 use crate::evaluation::generator::Source;
 use crate::evaluation::part::Part;
 use crate::evaluation::visit::{self, split_paths, VISIT_PATHS};
@@ -27,6 +28,10 @@ pub struct Visit {
     pub groups: Option<Vec<u8>>,
     pub paths: Vec<u8>,
 }
+
+/// The same for up to eight desks: each has a path of the bundle, and their replies share one output.
+#[derive(Clone, Debug)]
+pub struct Desks(pub Visit);
 
 /// What a call leaves: its numbers, of which it mostly has one, and what is in the state, if it is lent one, in its outputs, and last in its
 /// working buffer.
@@ -68,8 +73,14 @@ impl Left {
 
     /// What a visit owes.
     pub fn owed_visit(visited: &Visited, rooms: visit::Rooms) -> Left {
-        let (numbers, files) = answers(visited);
+        let (numbers, files) = answers(visited, VISIT_PATHS);
         Left::owed(&numbers, &files, &rooms)
+    }
+
+    /// What the call for desks owes.
+    pub fn owed_desks(visited: &Visited, room: Room) -> Left {
+        let (numbers, files) = answers(visited, DESKS);
+        Left::owed(&numbers, &[files.concat()], &[room.out, room.work])
     }
 
     /// The number of a call that has one.
@@ -84,9 +95,9 @@ impl Left {
     }
 }
 
-/// The numbers of a visit as the library gives them, each in a byte of its own, the first path's in the lowest.
-pub fn numbers_of(word: u32) -> Vec<u32> {
-    word.to_le_bytes().map(u32::from).to_vec()
+/// The numbers of at most so many paths as the library gives them, each in a byte of its own, the first path's in the lowest.
+pub fn numbers_of(given: u64, most: usize) -> Vec<u32> {
+    given.to_le_bytes()[..most].iter().map(|byte| u32::from(*byte)).collect()
 }
 
 /// Makes a call in buffers of garbage. What it leaves, and whether its inputs and all guards stand.
@@ -269,11 +280,16 @@ impl Visit {
 
     /// The calls for each path by itself; none where the bundle is refused.
     pub fn singles(&self) -> Vec<Call> {
+        self.singles_of(VISIT_PATHS)
+    }
+
+    /// The same by a call that takes so many paths.
+    fn singles_of(&self, most: usize) -> Vec<Call> {
         let single = |path: &[u8]| {
             let (part, groups, path) = (self.part.clone(), self.groups.clone(), path.to_vec());
             Call::FirstReply { part, groups, path }
         };
-        split_paths(&self.paths, VISIT_PATHS).map_or(vec![], |files| files.into_iter().map(single).collect())
+        split_paths(&self.paths, most).map_or(vec![], |files| files.into_iter().map(single).collect())
     }
 
     fn inputs(&self) -> Vec<&[u8]> {
@@ -290,13 +306,14 @@ impl Visit {
         let (left, stands) = made_in(random, &self.inputs(), rooms, |given, lent| {
             let [one, two, three, four, work] = lent;
             let [one, two, three, four, work] = [one, two, three, four, work].map(Guarded::inner_mut);
-            numbers_of(match given {
+            let given = match given {
                 [part, paths] => calls::four_replies(part, paths, one, two, three, four, work),
                 [part, groups, paths] => {
                     calls::four_replies_grouped(part, groups, paths, one, two, three, four, work)
                 }
                 _ => unreachable!("inputs of another call"),
-            })
+            };
+            numbers_of(given.into(), VISIT_PATHS)
         });
         assert!(stands, "{}, an input or a guard changed", self.told(rooms, &left));
         left
@@ -320,6 +337,58 @@ impl Visit {
             inputs.join("\n"),
             left.numbers,
             outputs.join("\n"),
+        )
+    }
+}
+
+impl Desks {
+    /// One desk with the path of a first reply, in the same way.
+    pub fn of(call: &Call) -> Option<Desks> {
+        Visit::of(call).map(Desks)
+    }
+
+    /// The calls for each path by itself; none where the bundle is refused.
+    pub fn singles(&self) -> Vec<Call> {
+        self.0.singles_of(DESKS)
+    }
+
+    pub fn evaluate(&self, room: Room) -> Visited {
+        evaluation::eight_replies(&self.0.part, self.0.groups.as_deref(), &self.0.paths, room)
+    }
+
+    /// Makes the call in buffers of garbage. Panics where it changed an input or a guard.
+    pub fn leaves(&self, random: &mut Random, room: Room) -> Left {
+        let rooms = [room.out, room.work];
+        let (left, stands) = made_in(random, &self.0.inputs(), rooms, |given, [out, work]| {
+            let [out, work] = [out, work].map(Guarded::inner_mut);
+            let given = match given {
+                [part, paths] => calls::eight_replies(part, paths, out, work),
+                [part, groups, paths] => calls::eight_replies_grouped(part, groups, paths, out, work),
+                _ => unreachable!("inputs of another call"),
+            };
+            numbers_of(given, DESKS)
+        });
+        assert!(stands, "{}, an input or a guard changed", self.told(room, &left));
+        left
+    }
+
+    /// Makes the call and holds it to the evaluation's outcomes, which are handed back. Panics where they differ.
+    pub fn check(&self, random: &mut Random, room: Room) -> Visited {
+        let visited = self.evaluate(room);
+        let left = self.leaves(random, room);
+        let right = left == Left::owed_desks(&visited, room);
+        assert!(right, "{}, the evaluation {visited:x?}", self.told(room, &left));
+        visited
+    }
+
+    /// The call with its inputs and what the library gave.
+    pub fn told(&self, room: Room, left: &Left) -> String {
+        let inputs: Vec<String> = self.0.inputs().into_iter().map(hex).collect();
+        format!(
+            "eight replies, {room:?}, inputs:\n{}\nthe library gives {:?} and\n{}",
+            inputs.join("\n"),
+            left.numbers,
+            left.told(0),
         )
     }
 }
@@ -369,15 +438,16 @@ pub fn answer(outcome: &Outcome) -> (u32, Vec<u32>) {
     }
 }
 
-/// The numbers and the words of a visit, for each output: past the last path 0 and none, and a refusal of the whole has its number for all.
-pub fn answers(visited: &Visited) -> (Vec<u32>, Vec<Vec<u32>>) {
+/// The numbers and the words of a call for at most so many paths, for each: past the last path 0 and none, and a refusal of the whole has its
+/// number for all.
+pub fn answers(visited: &Visited, most: usize) -> (Vec<u32>, Vec<Vec<u32>>) {
     let (all, outcomes) = match visited {
         Ok(outcomes) => (0, &outcomes[..]),
         Err(refusal) => (refusal.number, &[][..]),
     };
     let (mut numbers, mut files): (Vec<_>, Vec<_>) = outcomes.iter().map(answer).unzip();
-    numbers.resize(VISIT_PATHS, all);
-    files.resize(VISIT_PATHS, vec![]);
+    numbers.resize(most, all);
+    files.resize(most, vec![]);
     (numbers, files)
 }
 

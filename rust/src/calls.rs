@@ -1,11 +1,21 @@
-//! The thirteen calls of the library, on slices. Each returns its number, or its numbers in one word.
+//! The fifteen calls of the library, on slices. Each returns its number, or its numbers in one word or two.
+
+/// What a call returns: a word, or what it says.
+macro_rules! returned {
+    () => {
+        u32
+    };
+    ($wide:ty) => {
+        $wide
+    };
+}
 
 /// Declares calls under their C names, and makes of each a function on slices: the state that it is lent, inputs and numbers that it takes,
 /// if any, outputs and working buffer.
 macro_rules! calls {
     ($($name:ident = $symbol:ident(
         $(&$state:ident)? $($input:ident),* $(; $($number:ident),+)?
-    ) -> $($out:ident),+;)+) => {
+    ) -> $($out:ident),+ $(as $wide:ty)?;)+) => {
         mod library {
             extern "C" {
                 $(pub fn $symbol(
@@ -14,7 +24,7 @@ macro_rules! calls {
                     $($($number: u32,)+)?
                     $($out: *mut u8, _: usize,)+
                     work: *mut u8, _: usize,
-                ) -> u32;)+
+                ) -> returned!($($wide)?);)+
             }
         }
         $(#[allow(clippy::too_many_arguments)] // as many as the C call has
@@ -24,7 +34,7 @@ macro_rules! calls {
             $($($number: u32,)+)?
             $($out: &mut [u8],)+
             work: &mut [u8],
-        ) -> u32 {
+        ) -> returned!($($wide)?) {
             // The pointers and lengths come from references, so they are valid, and the mutable ones are disjoint from all others.
             unsafe {
                 library::$symbol(
@@ -47,6 +57,8 @@ calls! {
     first_reply_grouped = mowqachi_first_reply_grouped(part, groups, path) -> out;
     four_replies = mowqachi_four_replies(part, paths) -> out1, out2, out3, out4;
     four_replies_grouped = mowqachi_four_replies_grouped(part, groups, paths) -> out1, out2, out3, out4;
+    eight_replies = mowqachi_eight_replies(part, paths) -> out as u64;
+    eight_replies_grouped = mowqachi_eight_replies_grouped(part, groups, paths) -> out as u64;
     call_list = mowqachi_call_list(bundle) -> out;
     second_reply = mowqachi_second_reply(part, path, calls) -> out;
     second_reply_grouped = mowqachi_second_reply_grouped(part, groups, path, calls) -> out;

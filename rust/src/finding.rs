@@ -1,7 +1,8 @@
 //! Which mistakes a call or a path finds out: by which of them a program would give another outcome.
 
-use crate::beside::{answer, answers, Call, Left, Visit};
+use crate::beside::{answer, Call, Desks, Left, Visit};
 use crate::evaluation::dearest::{Counts, Rooms};
+use crate::evaluation::desks::WITHOUT_ROOM;
 use crate::evaluation::generator::Source;
 use crate::evaluation::groups::{read_groups, Groups, OURS};
 use crate::evaluation::hub::{read_first_bundle, FirstBundle};
@@ -9,6 +10,7 @@ use crate::evaluation::path::{read_path, read_path_by, MayStand, Path};
 use crate::evaluation::visit;
 use crate::evaluation::words::*;
 use crate::evaluation::{BothFiles, Generated, Outcome, Room, Visited};
+use crate::mistakes::desks::{self as asking, Asking};
 use crate::mistakes::generator::{self, Other};
 use crate::mistakes::visit::{self as visiting, Visiting};
 use crate::mistakes::*;
@@ -129,27 +131,32 @@ pub fn found_out_by_source(source: &Source, room: Room, outcome: &Generated) -> 
     [counts, names(&generator::DRAWING, drawing), names(&generator::LEAVING, leaving)].concat()
 }
 
-/// The mistakes that the last path of a visit finds out as a call by itself, in buffers as short as the shortest.
-fn found_out_by_last_path(visit: &Visit, rooms: visit::Rooms, visited: &Visited) -> Vec<&'static str> {
-    let single = match visit.singles().pop() {
+/// The mistakes that the last of some paths finds out as a call by itself, by what becomes of it; as such a call has it, if the whole is
+/// refused. One whose reply has no room beside the others finds out none.
+fn found_out_by_last_path(mut singles: Vec<Call>, room: Room, visited: &Visited) -> Vec<&'static str> {
+    let single = match singles.pop() {
         Some(single) => single,
         None => return vec![],
     };
-    let [outs @ .., work] = rooms;
-    let room = Room { out: outs.into_iter().fold(usize::MAX, usize::min), work };
     let of_last = |outcomes: &Vec<Outcome>| outcomes.last().cloned();
-    let outcome = visited.as_ref().ok().and_then(of_last).unwrap_or_else(|| single.evaluate(room));
-    found_out_by_call(&single, room, &outcome)
+    match visited.as_ref().ok().and_then(of_last).unwrap_or_else(|| single.evaluate(room)) {
+        Err(Refusal { why: WITHOUT_ROOM, .. }) => vec![],
+        outcome => found_out_by_call(&single, room, &outcome),
+    }
 }
 
-/// The mistakes that a visit finds out: those that its last path does, and those about visits.
+/// The mistakes that a visit finds out: those that its last path does, in buffers as short as the shortest, and those about visits.
 pub fn found_out_by_visit(visit: &Visit, rooms: visit::Rooms, visited: &Visited) -> Vec<&'static str> {
-    let asked = Visiting::new(visit, rooms, visited);
-    let (right, left) = (answers(visited), Left::owed_visit(visited, rooms));
-    let differs = |other: &visiting::Other| other.program().answer(&asked) != right;
-    let programs = visiting::PROGRAMS.map(|table| names(table, differs)).concat();
-    let leaving = names(&visiting::LEAVING, |leaving| leaving(&asked) != left);
-    [found_out_by_last_path(visit, rooms, visited), programs, leaving].concat()
+    let [outs @ .., work] = rooms;
+    let room = Room { out: outs.into_iter().fold(usize::MAX, usize::min), work };
+    let about_visits = visiting::found_out(&Visiting::new(visit, rooms, visited), visited);
+    [found_out_by_last_path(visit.singles(), room, visited), about_visits].concat()
+}
+
+/// The same of desks.
+pub fn found_out_by_desks(desks: &Desks, room: Room, visited: &Visited) -> Vec<&'static str> {
+    let about_desks = asking::found_out(&Asking::new(desks, room, visited), visited);
+    [found_out_by_last_path(desks.singles(), room, visited), about_desks].concat()
 }
 
 /// The mistakes in reading label words, and the groups that are handed in, by which a path is refused, or `of` it is not what is right.

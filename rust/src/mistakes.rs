@@ -1,10 +1,12 @@
 //! Mistakes, each as what is taken for right by a program that makes it: another word, other groups, another rule. The tests fail where none
 //! of their cases would find one out.
 
+pub mod desks;
 pub mod generator;
 pub mod growth;
 pub mod learning;
 mod leaving;
+mod paths;
 pub mod visit;
 
 use self::leaving::*;

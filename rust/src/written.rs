@@ -1,8 +1,12 @@
 //! Calls written in hexadecimal words, as the documents have them, and what the library answers.
 
-use crate::beside::{answer, answers, hex, Call, Visit};
+pub mod paths;
+
+use crate::beside::{answer, answers, hex, Call, Desks, Visit};
 use crate::evaluation::dearest::dearest_part;
+use crate::evaluation::desks::DESKS;
 use crate::evaluation::groups::{Groups, OURS};
+use crate::evaluation::visit::VISIT_PATHS;
 use crate::evaluation::words::bytes_of;
 use crate::evaluation::Room;
 use crate::random::Random;
@@ -28,15 +32,20 @@ pub fn made(call: &Call) -> (u32, Vec<u32>) {
     made_in(call, call.least_room())
 }
 
-/// The same in these buffers. A call without groups must give it with ours too, and a first reply in a visit for its path alone.
+/// The same in these buffers. A call without groups must give it with ours too, and a first reply in a visit for its path alone, and to a desk
+/// that asks alone.
 pub fn made_in(call: &Call, room: Room) -> (u32, Vec<u32>) {
     let random = &mut Random::new(1, "written", 0);
     let rooms = [room.out, room.out, room.out, room.out, room.work];
     let mut made = |call: &Call| {
         let given = answer(&call.check(random, room));
         if let Some(visit) = Visit::of(call) {
-            let (numbers, files) = answers(&visit.check(random, rooms));
+            let (numbers, files) = answers(&visit.check(random, rooms), VISIT_PATHS);
             assert_eq!((numbers[0], &files[0]), (given.0, &given.1), "{visit:x?}");
+        }
+        if let Some(desk) = Desks::of(call) {
+            let (numbers, files) = answers(&desk.check(random, room), DESKS);
+            assert_eq!((numbers[0], files.concat()), (given.0, given.1.clone()), "{desk:x?}");
         }
         given
     };

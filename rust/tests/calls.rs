@@ -1,18 +1,23 @@
 //! Random and damaged inputs for every call, by the library and by the evaluation; every check of the documents must have refused some, and
 //! every mistake in reading stopped nodes and labels outside a range, in counting operands, in loading groups, about nodes that are no doors,
-//! about several paths in one visit, about the dearest files and about plants that are drawn must have been found out by some.
+//! about several paths in one visit, about one reply for eight askers, about the dearest files and about plants that are drawn must have been
+//! found out by some.
 
 use mowqachi_tests::beside::{check_dearest, check_generate};
 use mowqachi_tests::evaluation::dearest::LEAST_ROOMS;
+use mowqachi_tests::evaluation::desks;
 use mowqachi_tests::evaluation::generator::LEAST_ROOM;
 use mowqachi_tests::evaluation::visit;
 use mowqachi_tests::evaluation::words::Refusal;
+use mowqachi_tests::evaluation::Visited;
 use mowqachi_tests::finding::*;
 use mowqachi_tests::generate::calls::{call, room, room_from, rooms};
 use mowqachi_tests::generate::counts::counts;
+use mowqachi_tests::generate::desks::desks;
 use mowqachi_tests::generate::sources::source;
 use mowqachi_tests::generate::visits;
 use mowqachi_tests::meeting::meet;
+use mowqachi_tests::mistakes::desks::in_desks;
 use mowqachi_tests::mistakes::generator::in_drawn_plants;
 use mowqachi_tests::mistakes::visit::in_visits;
 use mowqachi_tests::mistakes::*;
@@ -113,6 +118,7 @@ const NUMBERS: Checks = &[
 ];
 const SIZES: Checks = &[(11, "no nodes"), (11, "over 256 nodes"), (11, "no edges"), (11, "over 4 edges")];
 const RESULT: Checks = &[(15, "over its limit")];
+const BESIDE: Checks = &[(15, "without room")];
 
 /// Inputs, each with the lists of its checks.
 type Inputs<'a> = &'a [(&'static str, &'a [Checks])];
@@ -133,6 +139,13 @@ const FOUR_REPLIES: Inputs = &[
     ("path", &[HEADER, IN_BUNDLE, PATH]),
     ("result", &[RESULT]),
 ];
+const EIGHT_REPLIES: Inputs = &[
+    ("buffers", &[ROOM]),
+    ("part", IN_PART),
+    ("paths", &[BUNDLE_OF_PATHS]),
+    ("path", &[HEADER, IN_BUNDLE, PATH]),
+    ("result", &[RESULT, BESIDE]),
+];
 const GROUPS_TOO: Inputs = &[("groups", &[EIGHT])];
 const SECOND_REPLY: Inputs = &[("part", IN_PART), ("path", IN_PATH), ("call list", IN_CALLS)];
 
@@ -143,10 +156,14 @@ fn mistakes(inputs: Inputs) -> Vec<&'static str> {
     let in_bundles = names(&STRAYS, |_| has(&["first bundle"]));
     let in_files = if has(&["counts"]) { in_dearest_files() } else { vec![] };
     let in_plants = if has(&["nodes and edges"]) { in_drawn_plants() } else { vec![] };
-    let in_visits = if has(&["paths"]) { in_visits(groups) } else { vec![] };
+    let in_bundles_of_paths = match (has(&["paths"]), has(&["buffers"])) {
+        (true, true) => in_desks(groups),
+        (true, false) => in_visits(groups),
+        _ => vec![],
+    };
     let in_words = [names(&STOPPED, |_| nodes), names(&OUTSIDE, |_| path), names(&WAITING, |_| path)];
     let in_groups = [names(&GROUPS, |_| groups), names(&LOADED, |_| groups), names(&PLACES, |_| groups)];
-    [&in_words[..], &in_groups, &[in_bundles, in_files, in_plants, in_visits]].concat().concat()
+    [&in_words[..], &in_groups, &[in_bundles, in_files, in_plants, in_bundles_of_paths]].concat().concat()
 }
 
 fn named(refusal: Option<&Refusal>) -> String {
@@ -189,13 +206,24 @@ fn run_grouped(name: &'static str, inputs: Inputs) {
     run(name, &[inputs, GROUPS_TOO].concat());
 }
 
+fn refusals(visited: Visited) -> Vec<Option<Refusal>> {
+    let each = visited.map(|outcomes| outcomes.into_iter().map(Result::err).collect());
+    each.unwrap_or_else(|refusal| vec![Some(refusal)])
+}
+
 fn run_visits(name: &'static str, inputs: Inputs, grouped: bool) {
     share(name, inputs, |random| {
         let (visit, rooms) = (visits::visit(random, grouped), rooms(random, visit::LEAST_ROOMS));
         let visited = visit.check(random, rooms);
-        let found_out = found_out_by_visit(&visit, rooms, &visited);
-        let refusals = visited.map(|outcomes| outcomes.into_iter().map(Result::err).collect());
-        (found_out, refusals.unwrap_or_else(|refusal| vec![Some(refusal)]))
+        (found_out_by_visit(&visit, rooms, &visited), refusals(visited))
+    });
+}
+
+fn run_desks(name: &'static str, inputs: Inputs, grouped: bool) {
+    share(name, inputs, |random| {
+        let (desks, room) = (desks(random, grouped), room_from(random, desks::LEAST_ROOM));
+        let visited = desks.check(random, room);
+        (found_out_by_desks(&desks, room, &visited), refusals(visited))
     });
 }
 
@@ -232,6 +260,16 @@ fn four_replies() {
 #[test]
 fn four_replies_grouped() {
     run_visits("four replies grouped", &[FOUR_REPLIES, GROUPS_TOO].concat(), true);
+}
+
+#[test]
+fn eight_replies() {
+    run_desks("eight replies", EIGHT_REPLIES, false);
+}
+
+#[test]
+fn eight_replies_grouped() {
+    run_desks("eight replies grouped", &[EIGHT_REPLIES, GROUPS_TOO].concat(), true);
 }
 
 #[test]

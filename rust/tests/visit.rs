@@ -2,20 +2,20 @@
 //! call by itself, whatever becomes of its neighbours; what is past the last path; what refuses the whole, and in which order.
 
 use mowqachi_tests::beside::{answers, hex, Left, Visit};
-use mowqachi_tests::evaluation::groups::{read_groups, Groups, OURS};
+use mowqachi_tests::evaluation::groups::{read_groups, OURS};
 use mowqachi_tests::evaluation::part::{read_part, Part};
 use mowqachi_tests::evaluation::visit::*;
 use mowqachi_tests::evaluation::words::*;
 use mowqachi_tests::evaluation::Room;
 use mowqachi_tests::finding::found_out_by_visit;
 use mowqachi_tests::generate::calls::{asked_for_words, is_short, rooms};
-use mowqachi_tests::generate::damage::set_length;
 use mowqachi_tests::generate::path::{group, or_of, range, THEN};
 use mowqachi_tests::generate::visits::*;
 use mowqachi_tests::meeting::meet;
 use mowqachi_tests::mistakes::visit::{in_visits, Visiting, RIGHT};
 use mowqachi_tests::mistakes::{names, Named};
 use mowqachi_tests::random::{cases, Random};
+use mowqachi_tests::written::paths::*;
 use mowqachi_tests::written::*;
 use std::collections::{BTreeMap, BTreeSet};
 
@@ -48,12 +48,7 @@ fn held(random: &mut Random, visit: &Visit, rooms: Rooms) -> (Vec<u32>, Vec<Vec<
     };
     assert_eq!(numbers[singles.len()..], vec![past; VISIT_PATHS - singles.len()], "{visit:x?} {rooms:?}");
     assert!(all_zero(&outs[singles.len()..]) && all_zero(work), "{visit:x?} {rooms:?}");
-    answers(&visited)
-}
-
-/// A visit with these files, in words.
-fn asking(part: &str, groups: Option<&Groups>, paths: &[&str]) -> Visit {
-    Visit { part: bytes(part), groups: groups.map(|groups| bytes_of(groups)), paths: bytes(&paths.join(" ")) }
+    answers(&visited, VISIT_PATHS)
 }
 
 /// The numbers and words that a visit gives in the least buffers.
@@ -71,8 +66,6 @@ fn refused(visit: &Visit, number: u32) {
 }
 
 const PART: &str = FILES.parts[0];
-/// The star of nothing is refused with 9.
-const NO_OPERAND: &str = "40000002 60000003";
 
 #[test]
 fn in_words() {
@@ -118,24 +111,6 @@ fn bundles() -> Vec<Vec<&'static str>> {
     (1..=VISIT_PATHS).flat_map(|count| (0..1 << count).map(move |refused| bundle(count, refused))).collect()
 }
 
-/// The bytes of a bundle, but with lengths that do not use them up: cut off anywhere but behind a file, or with more behind them; and with other
-/// lengths in one header, 0 or one word past the end among them.
-fn not_used_up(paths: &[&str]) -> Vec<Vec<u8>> {
-    let files: Vec<Vec<u32>> = paths.iter().map(|path| words(path)).collect();
-    let all = bytes_of(&files.concat());
-    let ends: Vec<usize> = (1..=files.len()).map(|count| 4 * files[..count].concat().len()).collect();
-    let cut = (0..all.len()).filter(|length| !ends.contains(length)).map(|length| all[..length].to_vec());
-    let more = [vec![0], vec![0; 2], vec![0; 3], vec![0; 4], bytes("40000002"), bytes("40003fff")];
-    let longer = more.map(|more| [&all[..], &more].concat());
-    let lengths = |at: usize| [0, files[at..].concat().len() + 1, 8192, 0x3fff].map(|length| (at, length));
-    let others = (0..files.len()).flat_map(lengths).map(|(at, length)| {
-        let mut files = files.clone();
-        set_length(&mut files[at], length);
-        bytes_of(&files.concat())
-    });
-    cut.chain(longer).chain(others).collect()
-}
-
 #[test]
 fn lengths_that_do_not_use_up_the_bundle() {
     for bundle in bundles() {
@@ -156,11 +131,6 @@ fn more_than_four_files() {
     refused(&asking(PART, None, &[P, "40000000", P]), 17);
 }
 
-/// Each place of a path among one to four.
-fn places() -> impl Iterator<Item = (usize, usize)> {
-    (1..=VISIT_PATHS).flat_map(|count| (0..count).map(move |at| (at, count)))
-}
-
 /// Paths with this file among them, at this place.
 fn among(at: usize, count: usize, words: &[u32]) -> Visit {
     let file = hex(&bytes_of(words));
@@ -170,7 +140,7 @@ fn among(at: usize, count: usize, words: &[u32]) -> Visit {
 
 /// The file gets this number at each place, and its neighbours none.
 fn gets_by_itself(words: &[u32], number: u32) {
-    for (at, count) in places() {
+    for (at, count) in places(VISIT_PATHS) {
         let mut owed = [0; VISIT_PATHS];
         owed[at] = number;
         assert_eq!(numbers(&among(at, count, words)), owed, "{} words, {at} of {count}", words.len());
@@ -197,7 +167,7 @@ fn long_files() {
         gets_by_itself(&stars(length), number);
     }
     // the bundle has just 8,192 words, or one more
-    for (at, count) in places() {
+    for (at, count) in places(VISIT_PATHS) {
         let others = 7 * (count - 1);
         let number = |words: usize| numbers(&among(at, count, &stars(words - others)))[at];
         assert_eq!([8191, 8192, 8193, 8194].map(number), [2, 2, 17, 17]);
@@ -226,44 +196,11 @@ fn replies_at_their_limit() {
     }
 }
 
-/// Parts that are refused, each with its number.
-const WRONG_PARTS: [(u32, &str); 8] = [
-    (2, ""),
-    (3, "10100001"),
-    (3, P),
-    (4, "10000002"),
-    (5, "10000002 30050002"),
-    (6, "10000003 20000002 20000002"),
-    (7, "10000002 20020001"),
-    (7, "10000003 20030001 20030002"),
-];
-
-/// Bundles that are refused: none, five, a length of 0, one past the end, over 8,192 words; and bytes that are not in fours.
-fn wrong_bundles() -> Vec<Vec<u8>> {
-    let written =
-        ["", "40000001 40000001 40000001 40000001 40000001", "40000000", "40000003 60000000"].map(bytes);
-    let long = bytes_of(&[stars(8000), stars(193)].concat());
-    written.into_iter().chain([long, vec![2, 0, 0], [bytes(P), vec![0]].concat()]).collect()
-}
-
-/// Groups that are refused and such that are not, each with its number; and none.
-fn all_groups() -> Vec<(u32, Option<Vec<u8>>)> {
-    let (ours, narrow) = (bytes_of(&OURS), bytes_of(&[range(5, 5); 8]));
-    let wrong = [vec![], ours[..28].to_vec(), bytes_of(&[group(1); 8]), bytes_of(&[range(6, 5); 8])];
-    let right = [None, Some(ours), Some(narrow)].map(|groups| (0, groups));
-    wrong.map(|groups| (16, Some(groups))).into_iter().chain(right).collect()
-}
-
-/// Every part, groups and bundle, right and wrong, beside each other: the part comes first, then the groups, then the bundle, then each path.
+/// The part comes first, then the groups, then the bundle, then each path.
 #[test]
 fn parts_then_groups_then_the_bundle() {
-    let right = [P, NO_OPERAND, "10000001", ""].map(|path| (0, bytes(&[path, ONE_LABEL].join(" "))));
-    let bundles: Vec<_> = wrong_bundles().into_iter().map(|paths| (17, paths)).chain(right).collect();
-    let (parts, groups) = ([&WRONG_PARTS[..], &[(0, PART), (0, "15000001")]].concat(), all_groups());
-    let with_groups = parts.iter().flat_map(|part| groups.iter().map(move |groups| (part, groups)));
-    for ((part, groups), paths) in with_groups.flat_map(|two| bundles.iter().map(move |paths| (two, paths))) {
-        let visit = Visit { part: bytes(part.1), groups: groups.1.clone(), paths: paths.1.clone() };
-        match [part.0, groups.0, paths.0].into_iter().find(|number| *number != 0) {
+    for (visit, number) in beside_each_other(VISIT_PATHS) {
+        match number {
             Some(number) => refused(&visit, number),
             None => assert!(numbers(&visit).contains(&0), "{visit:x?}"),
         }
@@ -347,7 +284,8 @@ fn becomes(number: u32) -> &'static str {
 /// Bundles that are not refused, in buffers that are long enough. Fails if a path was not accepted and refused at each place.
 #[test]
 fn as_each_path_by_itself() {
-    let each = places().flat_map(|(at, count)| [0, 1].map(|number| place(becomes(number), at, count)));
+    let each =
+        places(VISIT_PATHS).flat_map(|(at, count)| [0, 1].map(|number| place(becomes(number), at, count)));
     let sorts = names(&SORTS, |_| true).into_iter().map(str::to_string);
     meet("visits", [cases() * 4 / 100, 20_000], each.chain(sorts), |random| {
         let grouped = random.chance(50);
@@ -404,7 +342,7 @@ fn another(random: &mut Random, files: &[Vec<u32>], at: usize) -> Vec<u32> {
 /// not refused and then accepted, and the other way.
 #[test]
 fn neighbours_are_left_alone() {
-    let owed = places().flat_map(|(at, count)| {
+    let owed = places(VISIT_PATHS).flat_map(|(at, count)| {
         ["accepted, then refused", "refused, then accepted"].map(|what| place(what, at, count))
     });
     meet("neighbours", [cases() * 6 / 100, 20_000], owed, |random| {

@@ -3,14 +3,14 @@
 use mathlib.Core.Path.{_≡_, refl, sym, _∙_, ap}
 use mathlib.Core.Logic.{_⊎_, inl, inr}
 use mathlib.Core.Bool.{Bool, not, _&&_}
-use mathlib.Core.List.{List, [], _∷_}
+use mathlib.Core.List.{List, [], _∷_, map}
 use Prim.Native.Nat.{ℕ, zero, suc, _*_, _≤_, _<_}
 use native.Mathlib.Nat.{sub-zero}
 use native.Mathlib.Omega.{arith}
 use native.Mathlib.Decide.{decLe, decLt}
 use lib.Dec.{T, leb}
-use lib.ListN.{length, getD, drop}
-use Rattle.sets.specs.Sets.{Mem, any, member}
+use lib.ListN.{length, getD, drop, length-map}
+use Rattle.sets.specs.Sets.{Mem, here, any, member}
 use Rattle.sets.proofs.Sets.{member-iff}
 use Rattle.sets.proofs.Tests.{and-iff, le-iff}
 use Rattle.sets.proofs.Filter.{all-iff}
@@ -18,7 +18,7 @@ use Rattle.sets.proofs.Lengths.{at-mem}
 use Rattle.files.specs.Word.{words, bytesOf}
 use Rattle.files.specs.Field.{sizeOf}
 use Rattle.files.specs.Refuse.{_then_, roomCheck, sizeCheck}
-use Rattle.files.specs.Outcome.{outcome, zeros, padded, leaves, leavesLent}
+use Rattle.files.specs.Outcome.{Outcome, refused, accepted, outcome, zeros, padded, Left, leaves, leavesLent}
 use Rattle.files.specs.Limits.{partWords}
 use Rattle.files.specs.Part.{partCheck, wholeCheck}
 use Rattle.files.specs.Path.{pathCheck}
@@ -34,8 +34,8 @@ use Rattle.old.proofs.OldSearch.{listed-length}
 use Rattle.cutter.specs.Cut.{cutCall}
 use Rattle.cutter.proofs.Cutter.{cut-length}
 use Rattle.cutter.proofs.Parts.{cuts-fit}
-use Rattle.path_bundles.specs.Split.{IsSplit, split, splitCheck}
-use Rattle.path_bundles.specs.Packed.{LeftSeveral}
+use Rattle.path_bundles.specs.Split.{split, splitCheck}
+use Rattle.path_bundles.specs.Packed.{byteAt, LeftSeveral}
 use Rattle.path_bundles.proofs.Splitting.{split-is}
 use Rattle.site_first.specs.First.{firstReplyCall, firstReplyGroupedCall}
 use Rattle.visits.specs.Whole.{shortest, wholeGroupedNumber}
@@ -45,6 +45,11 @@ use Rattle.four_replies.specs.Four.{visitPaths, fourRepliesGroupedCall}
 use Rattle.four_replies.specs.Visit.{At, IsVisit}
 use Rattle.four_replies.proofs.Visits.{four-ours}
 use Rattle.four_replies.proofs.Promised.{request-6}
+use Rattle.choices.specs.Shared.{Served}
+use Rattle.eight_replies.specs.Eight.{deskCount, eightRepliesGroupedCall}
+use Rattle.eight_replies.specs.Asking.{IsShared}
+use Rattle.eight_replies.proofs.Eights.{eight-ours}
+use Rattle.eight_replies.proofs.Promised.{request-11}
 use Rattle.site_second.specs.Second.{againstCheck, secondReplyCall, secondReplyGroupedCall}
 use Rattle.site_second.proofs.SecondReplies.{second-reply, second-length}
 use Rattle.expressions.proofs.Loading.{ours-same}
@@ -64,7 +69,7 @@ use Rattle.generator.proofs.Answering.{within}
 use Rattle.generator.proofs.Wholes.{generated-fits}
 use Rattle.demands.specs.PlantOf.{plantOf}
 use Rattle.demands.specs.Grouped.{own}
-use Rattle.demand_1.specs.Demand1.{Settles, SettlesBoth, SettlesLent, SettlesEach, OwedAt, dearestNumbers, generateNumbers, visitNumbers, visitPathNumbers, grouped, rows, Demand1}
+use Rattle.demand_1.specs.Demand1.{Settles, SettlesBoth, SettlesLent, SettlesEach, OwedAt, SettlesShared, dearestNumbers, generateNumbers, visitNumbers, visitPathNumbers, grouped, rows, Demand1}
 use Rattle.demands.proofs.PlantOf.{plant-holds}
 use Rattle.demands.proofs.OldSearch.{old-final}
 use Rattle.demands.proofs.Grouping.{asks-checked, final-asked}
@@ -130,8 +135,32 @@ lent-settle s e k n m = go (roomCheck partWords n m then boundsCheck e k) refl (
     go (suc x) e (inl z) = absurd (omega arith)
     go (suc x) e (inr i) = inl (suc x, i, refl)
 
--- A call that answers paths one by one: with groups, and so, with our own, without. Where buffers, part, groups and bundle pass, a path is left with
--- its own checks, of which there is no 4.
+-- One path of several, in a bundle that splits: where buffers, part and groups pass, it is left with its own checks, of which there is no 4. It is
+-- refused under one of its numbers, or gets what is owed.
+module _ (most m : ℕ) (part groups paths : List ℕ) (Owed : List ℕ → List ℕ → Type 0)
+    (owed : partCheck (words part) ≡ 0 → groupsCheck groups ≡ 0 → (f : List ℕ) → pathCheck (words f) ≡ 0 → Owed f (firstReply (words part) (loaded (words groups) (words f))))
+    (split-up : splitCheck most paths ≡ 0) where
+  abbrev Either : List ℕ → Outcome → Type 0
+  Either f o = ((k : ℕ) × Mem k visitPathNumbers × (o ≡ refused k)) ⊎ ((g : List ℕ) × Owed f g × (length g ≤ 4096) × (o ≡ accepted g))
+
+  path-either : (n : ℕ) (f : List ℕ) → SiteRead n m part groups → Mem f (split most paths) → Either f (firstReplyGroupedCall n m part groups f)
+  path-either n f r i =
+      let c = sizeCheck 64 f then pathCheck (words f) in
+      let is-split = split-is most paths ((simp checks at split-up) .1) in
+      let sized : sizeOf (getD (words f) 0 0) ≡ length (words f) = omega (arith, is-split .sized f i, words-length f) in
+      rw (path-alone r f) (by c refl (among-first tt (size-numbers 64 f) (among-more tt (path-sized (words f) sized))) (decLe (length reply) 4096))
+    where
+      reply : List ℕ
+      reply = firstReply (words part) (loaded (words groups) (words f))
+
+      by : (k : ℕ) → k ≡ (sizeCheck 64 f then pathCheck (words f)) → Among visitPathNumbers k → Dec (length reply ≤ 4096) → Either f (outcome k 4096 reply)
+      by zero e a (yes l) =
+          inr (reply, owed (r .part-read .read) (r .groups-read) f (then-iff (sizeCheck 64 f) (pathCheck (words f)) .0 (sym e) .1), l, outcome-gives 4096 reply l)
+      by zero e a (no l) = inl (15, member-iff 15 visitPathNumbers .0 tt, outcome-over 4096 reply (omega arith))
+      by (suc k) e (inl z) d = absurd (omega arith)
+      by (suc k) e (inr j) d = inl (suc k, j, refl)
+
+-- A call that answers paths one by one: with groups, and so, with our own, without
 module _ (ns : List ℕ) (m : ℕ) (part groups paths : List ℕ) (Owed : List ℕ → List ℕ → Type 0) (whole : List ℕ)
     (a : Among whole (wholeGroupedNumber visitPaths (shortest ns) m part groups paths))
     (owed : partCheck (words part) ≡ 0 → groupsCheck groups ≡ 0 → (f : List ℕ) → pathCheck (words f) ≡ 0 → Owed f (firstReply (words part) (loaded (words groups) (words f)))) where
@@ -153,20 +182,8 @@ module _ (ns : List ℕ) (m : ℕ) (part groups paths : List ℕ) (Owed : List �
     checked : VisitChecked visitPaths (shortest ns) m part groups paths 0
     checked = record { checked = record { is = sym z } }
 
-    file-split : IsSplit visitPaths paths fs
-    file-split = split-is visitPaths paths ((simp checks at (bundle-split ns checked)) .1)
-
-    -- the call for one path
-    path-settles : (n : ℕ) (f : List ℕ) → SiteRead n m part groups → Mem f fs → Settles visitPathNumbers 4096 (Owed f) (firstReplyGroupedCall n m part groups f) n m
-    path-settles n f r i =
-        let c = sizeCheck 64 f then pathCheck (words f) in
-        let sized : sizeOf (getD (words f) 0 0) ≡ length (words f) = omega (arith, file-split .sized f i, words-length f) in
-        rw (path-alone r f) (settles-by visitPathNumbers 4096 n m c (Owed f) (firstReply (words part) (loaded (words groups) (words f)))
-        (among-first tt (size-numbers 64 f) (among-more tt (path-sized (words f) sized)))
-        (λ e. (r .room .holds, owed (r .part-read .read) (r .groups-read) f (then-iff (sizeCheck 64 f) (pathCheck (words f)) .0 e .1), inr tt)))
-
     ends : (i : ℕ) → i < length ns → Dec (i < length fs) → Ends i
-    ends i h (yes l) = by (is .path z i h l) (path-settles n f (site-read ns checked (at-mem 0 ns i h)) (at-mem [] fs i l))
+    ends i h (yes l) = by (is .path z i h l) (path-either visitPaths m part groups paths Owed owed (bundle-split ns checked) n f read (at-mem [] fs i l))
       where
         n : ℕ
         n = getD ns i 0
@@ -174,10 +191,14 @@ module _ (ns : List ℕ) (m : ℕ) (part groups paths : List ℕ) (Owed : List �
         f : List ℕ
         f = getD fs i []
 
+        read : SiteRead n m part groups
+        read = site-read ns checked (at-mem 0 ns i h)
+
         by : At done i (leaves (firstReplyGroupedCall n m part groups f) n m .number) (leaves (firstReplyGroupedCall n m part groups f) n m .output)
-            → Settles visitPathNumbers 4096 (Owed f) (firstReplyGroupedCall n m part groups f) n m → Ends i
+            → ((k : ℕ) × Mem k visitPathNumbers × (firstReplyGroupedCall n m part groups f ≡ refused k))
+            ⊎ ((g : List ℕ) × Owed f g × (length g ≤ 4096) × (firstReplyGroupedCall n m part groups f ≡ accepted g)) → Ends i
         by t (inl (k, j, e)) = inl (k, j, rw e at t)
-        by t (inr (g, w, s, r, e)) = inr (g, (λ l. w, λ k. absurd (omega arith)), s, r, rw e at t)
+        by t (inr (g, w, s, e)) = inr (g, (λ l. w, λ k. absurd (omega arith)), s, read .room .holds, rw e at t)
     ends i h (no l) =
         let t = is .past z i h (omega arith) in
         inr ([], (λ k. absurd (omega arith), λ k. refl), omega arith, site-read ns checked (at-mem 0 ns i h) .room .holds, record { number-is = t .number-is; output-is = t .output-is ∙ ap zeros (sym (sub-zero (getD ns i 0))) })
@@ -190,6 +211,73 @@ module _ (ns : List ℕ) (m : ℕ) (part groups paths : List ℕ) (Owed : List �
       go zero e b = inr (λ i h. ends (sym e) i h (decLt i (length fs)))
       go (suc k) e (inl z) = absurd (omega arith)
       go (suc k) e (inr j) = inl (suc k, j, λ i h. rw e (is .whole (λ z. omega (arith, e)) i h))
+
+map-at : {A B : Type 0} (f : A → B) (l : List A) (i : ℕ) (a : A) (b : B) → i < length l → getD (map f l) i b ≡ f (getD l i a)
+map-at f [] i a b h = absurd (omega arith)
+map-at f (x ∷ l) zero a b h = refl
+map-at f (x ∷ l) (suc i) a b h = map-at f l i a b (omega arith)
+
+-- A call whose desks share one reply, likewise
+module _ (n m : ℕ) (part groups paths : List ℕ) (Owed : List ℕ → List ℕ → Type 0) (whole : List ℕ)
+    (a : Among whole (wholeGroupedNumber deskCount n m part groups paths))
+    (owed : partCheck (words part) ≡ 0 → groupsCheck groups ≡ 0 → (f : List ℕ) → pathCheck (words f) ≡ 0 → Owed f (firstReply (words part) (loaded (words groups) (words f)))) where
+  abbrev files : List (List ℕ)
+  files = split deskCount paths
+
+  abbrev call : List ℕ → Outcome
+  call path = firstReplyGroupedCall n m part groups path
+
+  abbrev told : Left
+  told = eightRepliesGroupedCall n m part groups paths
+
+  abbrev Gets : ℕ → Type 0
+  Gets i = ((k : ℕ) × Mem k visitPathNumbers × (byteAt i (told .number) ≡ k)) ⊎ ((f : List ℕ) × Owed (getD files i []) f × Served told i f)
+
+  shares : IsShared (wholeGroupedNumber deskCount n m part groups paths) (map call files) n m told
+  shares = request-11 .eight-grouped n m part groups paths
+
+  module _ (z : wholeGroupedNumber deskCount n m part groups paths ≡ 0) where
+    all-checked : VisitChecked deskCount (shortest (n ∷ [])) m part groups paths 0
+    all-checked = record { checked = record { is = sym z } }
+
+    read : SiteRead n m part groups
+    read = site-read (n ∷ []) all-checked (here refl)
+
+    gets : (i : ℕ) → i < length files → Gets i
+    gets i h = by (path-either deskCount m part groups paths Owed owed (bundle-split (n ∷ []) all-checked) n (getD files i []) read (at-mem [] files i h))
+      where
+        here-is : getD (map call files) i (accepted []) ≡ call (getD files i [])
+        here-is = map-at call files i [] (accepted []) h
+
+        within : i < length (map call files)
+        within = omega (arith, length-map files call)
+
+        by : ((k : ℕ) × Mem k visitPathNumbers × (call (getD files i []) ≡ refused k)) ⊎ ((g : List ℕ) × Owed (getD files i []) g × (length g ≤ 4096) × (call (getD files i []) ≡ accepted g))
+            → Gets i
+        by (inl (k, j, e)) = inl (k, j, shares .refusal z i within k (here-is ∙ e))
+        by (inr (g, w, s, e)) = elim (decLe (length g) 512) [
+          | yes l ↦ inr (g, w, shares .short z i within g (here-is ∙ e) l)
+          | no l ↦ elim (shares .long z i within g (here-is ∙ e) (omega arith)) [
+            | inl t ↦ inr (g, w, t .0)
+            | inr t ↦ inl (15, member-iff 15 visitPathNumbers .0 tt, t .0)
+          ]
+        ]
+
+    past : (i : ℕ) → length files ≤ i → byteAt i (told .number) ≡ 0
+    past i h = shares .past z i (omega (arith, length-map files call))
+
+  shared-settle : SettlesShared whole visitPathNumbers 4096 Owed files told n m
+  shared-settle = (go (wholeGroupedNumber deskCount n m part groups paths) refl a, shares .work)
+    where
+      go : (k : ℕ) → k ≡ wholeGroupedNumber deskCount n m part groups paths → Among whole k
+          → ((k : ℕ) × Mem k whole × ((i : ℕ) → i < deskCount → byteAt i (told .number) ≡ k) × (told .output ≡ zeros n))
+          ⊎ (((i : ℕ) → i < length files → Gets i) × ((i : ℕ) → length files ≤ i → byteAt i (told .number) ≡ 0)
+          × ((ws : List ℕ) × (length ws ≤ 4096) × (4 * 4096 ≤ n) × (told .output ≡ padded n ws)))
+      go zero e b =
+          let (ws, l, o) = shares .fits in
+          inr (gets (sym e), past (sym e), (ws, l, read (sym e) .room .holds, o))
+      go (suc k) e (inl z) = absurd (omega arith)
+      go (suc k) e (inr j) = let (t, o) = shares .whole (λ z. omega (arith, e)) in inl (suc k, j, λ i h. t i h ∙ sym e, o)
 
 pub demand-1 : Demand1
 unfolding oldSearchCall cutCall firstReplyCall callListCall secondReplyCall joinCall oldSearchGroupedCall firstReplyGroupedCall secondReplyGroupedCall
@@ -262,6 +350,18 @@ demand-1 = record {
       let bundle : Among (grouped visitNumbers) (splitCheck visitPaths paths) = search among in
       let room : Among (grouped visitNumbers) (roomCheck 4096 (shortest ns) m) = search among in
       each-settle ns m part groups paths (λ path. IsFirstReply (words part) (loaded (words groups) (words path))) (grouped visitNumbers)
+      (among-then room (among-first tt (size-numbers 4096 part) (among-first tt (part-numbers (words part)) (among-first tt (groups-numbers groups) bundle))))
+      (λ p g f c. first-reply (words part) (loaded (words groups) (words f)) p (asks-checked (own groups) (words f) g c));
+  eight-replies = λ part paths n m.
+      let bundle : Among visitNumbers (splitCheck deskCount paths) = search among in
+      let room : Among visitNumbers (roomCheck 4096 n m) = search among in
+      rw (← eight-ours n m part paths) (shared-settle n m part (bytesOf ourGroups) paths (λ path. IsFirstReply (words part) (words path)) visitNumbers
+      (among-then room (among-first tt (size-numbers 4096 part) (among-first tt (part-numbers (words part)) bundle)))
+      (λ p g f c. rw (first-same (words part) (ours-same (words f))) (first-reply (words part) (words f) p c)));
+  eight-replies-grouped = λ part groups paths n m.
+      let bundle : Among (grouped visitNumbers) (splitCheck deskCount paths) = search among in
+      let room : Among (grouped visitNumbers) (roomCheck 4096 n m) = search among in
+      shared-settle n m part groups paths (λ path. IsFirstReply (words part) (loaded (words groups) (words path))) (grouped visitNumbers)
       (among-then room (among-first tt (size-numbers 4096 part) (among-first tt (part-numbers (words part)) (among-first tt (groups-numbers groups) bundle))))
       (λ p g f c. first-reply (words part) (loaded (words groups) (words f)) p (asks-checked (own groups) (words f) g c));
   -- by computation

@@ -1,6 +1,6 @@
 -- Believed. The user's demand 1. Any file, cut list, bundle, groups or counts, with buffers of any length, get their one result or a refusal under a
 -- number of document 01 or 02, and a refusal leaves outputs and working buffer all zero, and a lent state unmoved; that of one path of a visit, its
--- own output. It is said of what the calls leave, by their contracts (mowqachi/src/lib.rt): `leaves` of their outcomes. That a call ends and touches
+-- own output, and that of one desk of several, nothing of its own. It is said of what the calls leave, by their contracts (mowqachi/src/lib.rt): `leaves` of their outcomes. That a call ends and touches
 -- nothing else is what the check proves of every function.
 use Prim.Native.Nat.{ℕ, _*_, _≤_, _<_}
 use mathlib.Core.Path.{_≡_}
@@ -9,15 +9,17 @@ use mathlib.Core.List.{List, [], _∷_}
 use lib.ListN.{length, getD, drop}
 use Rattle.sets.specs.Sets.{Mem}
 use Rattle.files.specs.Word.{words}
-use Rattle.files.specs.Outcome.{Outcome, zeros, padded, left, leaves, leftLent, leavesLent}
+use Rattle.files.specs.Outcome.{Outcome, zeros, padded, Left, left, leaves, leftLent, leavesLent}
 use Rattle.files.specs.Groups.{loaded}
 use Rattle.path_bundles.specs.Split.{split}
-use Rattle.path_bundles.specs.Packed.{LeftSeveral}
+use Rattle.path_bundles.specs.Packed.{byteAt, LeftSeveral}
 use Rattle.expressions.specs.Labels.{exprOf}
 use Rattle.first_replies.specs.FirstReply.{IsFirstReply}
 use Rattle.site_first.specs.First.{firstReplyCall, firstReplyGroupedCall}
 use Rattle.four_replies.specs.Four.{visitPaths, fourRepliesCall, fourRepliesGroupedCall}
 use Rattle.four_replies.specs.Visit.{At}
+use Rattle.choices.specs.Shared.{Served}
+use Rattle.eight_replies.specs.Eight.{deskCount, eightRepliesCall, eightRepliesGroupedCall}
 use Rattle.site_second.specs.Second.{IsSecondReply, secondReplyCall, secondReplyGroupedCall}
 use Rattle.hub_calls.specs.CallList.{IsCallList, callListCall}
 use Rattle.hub_join.specs.Join.{IsJoined, joinCall}
@@ -65,6 +67,17 @@ SettlesEach whole numbers limit Owed l ns m =
 abbrev pub OwedAt : (List ℕ → List ℕ → Type 0) → List (List ℕ) → ℕ → List ℕ → Type 0
 OwedAt Owed paths i f = (i < length paths → Owed (getD paths i []) f) × (length paths ≤ i → f ≡ [])
 
+-- and of a call whose desks share one reply, in an output of n bytes, and which leaves l. A refusal of the whole: its number, one of `whole`, in every
+-- byte, and zeros. Or for each path one of two: a refusal of it, under one of `numbers`; or 0, and the file that its desk finds is owed. Past the last
+-- path the numbers are 0, and past the shared reply there are zeros.
+abbrev pub SettlesShared : List ℕ → List ℕ → ℕ → (List ℕ → List ℕ → Type 0) → List (List ℕ) → Left → ℕ → ℕ → Type 0
+SettlesShared whole numbers limit Owed paths l n m =
+    (((k : ℕ) × Mem k whole × ((i : ℕ) → i < deskCount → byteAt i (l .number) ≡ k) × (l .output ≡ zeros n))
+    ⊎ (((i : ℕ) → i < length paths → ((k : ℕ) × Mem k numbers × (byteAt i (l .number) ≡ k)) ⊎ ((f : List ℕ) × Owed (getD paths i []) f × Served l i f))
+    × ((i : ℕ) → length paths ≤ i → byteAt i (l .number) ≡ 0)
+    × ((ws : List ℕ) × (length ws ≤ limit) × (4 * limit ≤ n) × (l .output ≡ padded n ws))))
+    × (l .work ≡ zeros m)
+
 -- The numbers of each call, as the table of docs/CALLS.md has them
 abbrev pub oldSearchNumbers : List ℕ
 oldSearchNumbers = 1 ∷ 2 ∷ 3 ∷ 4 ∷ 5 ∷ 6 ∷ 7 ∷ 8 ∷ 9 ∷ []
@@ -90,7 +103,7 @@ dearestNumbers = 1 ∷ 21 ∷ []
 abbrev pub generateNumbers : List ℕ
 generateNumbers = 1 ∷ 11 ∷ []
 
--- of a visit: those of the whole, and those of one of its paths. A path has no 4, as its length is where its file ends
+-- of a visit, and of desks that share a reply: those of the whole, and those of one of the paths. A path has no 4, as its length is where its file ends
 abbrev pub visitNumbers : List ℕ
 visitNumbers = 1 ∷ 2 ∷ 3 ∷ 4 ∷ 5 ∷ 6 ∷ 7 ∷ 17 ∷ []
 
@@ -131,5 +144,10 @@ pub record Demand1 : Type 1 where
   pub four-replies-grouped : (part groups paths ns : List ℕ) (m : ℕ)
       → SettlesEach (grouped visitNumbers) visitPathNumbers 4096 (OwedAt (λ path. IsFirstReply (words part) (loaded (words groups) (words path))) (split visitPaths paths))
       (fourRepliesGroupedCall ns m part groups paths) ns m
+  pub eight-replies : (part paths : List ℕ) (n m : ℕ)
+      → SettlesShared visitNumbers visitPathNumbers 4096 (λ path. IsFirstReply (words part) (words path)) (split deskCount paths) (eightRepliesCall n m part paths) n m
+  pub eight-replies-grouped : (part groups paths : List ℕ) (n m : ℕ)
+      → SettlesShared (grouped visitNumbers) visitPathNumbers 4096 (λ path. IsFirstReply (words part) (loaded (words groups) (words path))) (split deskCount paths)
+      (eightRepliesGroupedCall n m part groups paths) n m
   -- the numbers are those of documents 01 and 02, and 0 is none of them: a call gives its result or is refused, and not both
   pub numbered : (row : List ℕ) → Mem row rows → (k : ℕ) → Mem k row → (1 ≤ k) × (k ≤ 21)

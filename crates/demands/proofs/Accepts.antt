@@ -38,7 +38,7 @@ use Rattle.demands.specs.Demand.{Asked, NoneWalked, Enough}
 use Rattle.demands.proofs.Comes.{Ends, unwalked-ends, ends-unwalked}
 use Rattle.demands.proofs.Cross.{Called, called-door, called-home, called-reach, called-ends}
 use Rattle.demands.proofs.Grouping.{asks-checked, asks-head, first-asked, second-asked, unwalked-asked}
-use Rattle.demands.proofs.Host.{Sized, file-sized, made-sized}
+use Rattle.path_bundles.proofs.Sized.{Sized, file-sized, made-sized}
 use Rattle.demands.proofs.Bundles.{cut-perm, firsts-made, first-doors, first-root, first-bundle, first-rows-iff, seconds-made, second-answers, second-bundle}
 
 -- a bundle of some files has some words

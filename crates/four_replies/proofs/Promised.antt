@@ -20,8 +20,9 @@ use Rattle.path_bundles.proofs.Splitting.{split-is, split-one, split-iff}
 use Rattle.site_first.specs.First.{firstReplyCall, firstReplyGroupedCall}
 use Rattle.site_first.proofs.FirstCalls.{first-ours}
 use Rattle.visits.specs.Whole.{shortest, wholeNumber, wholeGroupedNumber}
+use Rattle.visits.specs.Visit.{answers, visit}
 use Rattle.visits.proofs.Visiting.{call-small, whole-small}
-use Rattle.four_replies.specs.Four.{visitPaths, answers, visit, fourReplies, fourRepliesGrouped, fourRepliesCall, fourRepliesGroupedCall}
+use Rattle.four_replies.specs.Four.{visitPaths, fourReplies, fourRepliesGrouped, fourRepliesCall, fourRepliesGroupedCall}
 use Rattle.four_replies.specs.Visit.{At, IsVisit, Alone, Request6}
 use Rattle.four_replies.proofs.Visits.{four-ours}
 

@@ -15,43 +15,12 @@ use Rattle.path_bundles.proofs.Splitting.{split-is}
 use Rattle.site_first.specs.First.{firstReplyGroupedCall}
 use Rattle.site_first.proofs.FirstCalls.{first-ours}
 use Rattle.visits.specs.Whole.{shortest, wholeNumber}
+use Rattle.visits.specs.Visit.{answers, visit}
 use Rattle.visits.specs.Answered.{VisitChecked, SiteRead, SiteReady, answeredBy, PathLeft}
-use Rattle.visits.proofs.Visiting.{site-read, site-ready, bundle-split, path-alone, answered-some, left-small}
-use Rattle.four_replies.specs.Four.{visitPaths, answers, visit, fourReplies, fourRepliesGrouped, fourRepliesCall, fourRepliesGroupedCall}
+use Rattle.visits.proofs.Visiting.{site-ready, ready-split, left-small}
+use Rattle.visits.proofs.Answering.{byFiles, outcomes}
+use Rattle.four_replies.specs.Four.{visitPaths, fourReplies, fourRepliesGrouped, fourRepliesCall, fourRepliesGroupedCall}
 use Rattle.four_replies.specs.Left.{VisitReady, VisitLeft}
-
--- what is answered at the outputs, by the files from header to header
-abbrev byFiles : ℕ → List ℕ → List ℕ → List ℕ → List ℕ → List Outcome
-byFiles whole part groups [] s = []
-byFiles whole part groups (n ∷ ns) s = answeredBy whole part groups (fileIn s) ∷ byFiles whole part groups ns (behind s)
-
-module _ (m : ℕ) (part groups : List ℕ) where
-  abbrev reply : ℕ → List ℕ → Outcome
-  reply n path = firstReplyGroupedCall n m part groups path
-
-  none-answered : (ns : List ℕ) → answers reply ns [] ≡ byFiles 0 part groups ns []
-  none-answered [] = refl
-  none-answered (n ∷ ns) = ap (accepted [] ∷_) (none-answered ns)
-
-  answers-are : (k : ℕ) (ns s : List ℕ) → length ns ≤ k → ((n : ℕ) → Mem n ns → SiteRead n m part groups) → ((f : List ℕ) → Mem f (split k s) → 0 < length f)
-      → answers reply ns (split k s) ≡ byFiles 0 part groups ns s
-  answers-are k [] s l q p = refl
-  answers-are zero (n ∷ ns) s l q p = absurd (omega arith)
-  answers-are (suc k) (n ∷ ns) [] l q p = none-answered (n ∷ ns)
-  answers-are (suc k) (n ∷ ns) (b ∷ s) l q p =
-      let f = fileIn (b ∷ s) in
-      ap₂ _∷_ (path-alone (q n (here refl)) f ∙ sym (answered-some part groups f (p f (here refl))))
-      (answers-are k ns (behind (b ∷ s)) (omega arith) (λ n m. q n (there m)) (λ f m. p f (there m)))
-
-  refused-are : (k : ℕ) (ns : List ℕ) (fs : List (List ℕ)) (s : List ℕ) → visit (suc k) reply ns fs ≡ byFiles (suc k) part groups ns s
-  refused-are k [] fs s = refl
-  refused-are k (n ∷ ns) fs s = ap (answeredBy (suc k) part groups (fileIn s) ∷_) (refused-are k ns fs (behind s))
-
-  outcomes : (whole : ℕ) (ns paths : List ℕ) → length ns ≤ visitPaths → VisitChecked visitPaths (shortest ns) m part groups paths whole
-      → visit whole reply ns (split visitPaths paths) ≡ byFiles whole part groups ns paths
-  outcomes zero ns paths l c =
-      answers-are visitPaths ns paths l (λ n i. site-read ns c i) (split-is visitPaths paths ((simp checks at (bundle-split ns c)) .1) .some)
-  outcomes (suc k) ns paths l c = refused-are k ns (split visitPaths paths) paths
 
 -- ---- the call
 
@@ -77,7 +46,7 @@ pub visited : {part groups paths : List ℕ} {m a b c d whole r₁ r₂ r₃ r�
 unfolding fourRepliesGrouped
 visited {part} {groups} {paths} {m} {a} {b} {c} {d} {whole} v p q s t e =
     let ns : List ℕ = a ∷ b ∷ c ∷ d ∷ [] in
-    let os : fourRepliesGrouped ns m part groups paths ≡ byFiles whole part groups ns paths = rw (← v .checked .checked .is) (outcomes m part groups whole ns paths (omega arith) (v .checked)) in
+    let os : fourRepliesGrouped ns m part groups paths ≡ byFiles whole part groups ns paths = rw (← v .checked .checked .is) (outcomes m part groups visitPaths whole ns paths (omega arith) (λ n i. site-ready ns (v .checked) i refl) (ready-split (v .checked))) in
     record {
       numbers = e ∙ (λ i. packed (p .number i ∷ q .number i ∷ s .number i ∷ t .number i ∷ [])) ∙ ap (λ os. packed (map numberOf os)) (sym os);
       outputs = (λ i. p .output i ∷ q .output i ∷ s .output i ∷ t .output i ∷ []) ∙ ap (λ os. outputsOf os ns) (sym os);

@@ -1,26 +1,16 @@
 -- Believed. Four paths in one visit: the first replies to a bundle of up to four paths, each in an output of its own. Document 02, request 6.
-use Prim.Native.Nat.{ℕ, zero, suc}
-use mathlib.Core.List.{List, [], _∷_, map}
-use Rattle.files.specs.Outcome.{Outcome, refused, accepted}
+use Prim.Native.Nat.{ℕ}
+use mathlib.Core.List.{List}
+use Rattle.files.specs.Outcome.{Outcome}
 use Rattle.path_bundles.specs.Split.{split}
 use Rattle.path_bundles.specs.Packed.{LeftSeveral, leavesSeveral}
 use Rattle.visits.specs.Whole.{shortest, wholeNumber, wholeGroupedNumber}
+use Rattle.visits.specs.Visit.{visit}
 use Rattle.site_first.specs.First.{firstReplyCall, firstReplyGroupedCall}
 
 -- the most paths of a visit
 abbrev pub visitPaths : ℕ
 visitPaths = 4
-
--- What is answered at each output, of n bytes: to its path what the call for this path alone answers; past the last path 0 and no words.
-abbrev pub answers : (ℕ → List ℕ → Outcome) → List ℕ → List (List ℕ) → List Outcome
-answers reply [] paths = []
-answers reply (n ∷ ns) [] = accepted [] ∷ answers reply ns []
-answers reply (n ∷ ns) (path ∷ paths) = reply n path ∷ answers reply ns paths
-
--- by the number of the checks of the whole, whose refusal stands at every output
-abbrev pub visit : ℕ → (ℕ → List ℕ → Outcome) → List ℕ → List (List ℕ) → List Outcome
-visit zero reply ns paths = answers reply ns paths
-visit (suc k) reply ns paths = map (λ n. refused (suc k)) ns
 
 -- the outcomes at outputs of ns bytes, with a working buffer of m bytes
 unfoldable pub fourReplies : List ℕ → ℕ → List ℕ → List ℕ → List Outcome

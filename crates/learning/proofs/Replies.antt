@@ -7,7 +7,7 @@ use mathlib.Core.List.{List, [], _∷_, map, flatten, Memᴰ·map, Memᴰ·of-ma
 use Prim.Native.Nat.{ℕ, zero, suc, _^_, _≤_, _<_}
 use native.Mathlib.Omega.{arith}
 use lib.Dec.{T, eqb}
-use lib.ListN.{length, getD, drop}
+use lib.ListN.{length, getD, drop, replicate}
 use Rattle.sets.specs.Sets.{Mem, filter, member, any}
 use Rattle.sets.specs.Reach.{Reach, seed}
 use Rattle.sets.proofs.Tests.{same-test}
@@ -40,8 +40,12 @@ use Rattle.site_first.proofs.FirstCalls.{first-ours}
 use Rattle.path_bundles.specs.Split.{split, splitCheck}
 use Rattle.path_bundles.specs.Packed.{leavesSeveral}
 use Rattle.visits.specs.Whole.{shortest}
-use Rattle.four_replies.specs.Four.{visitPaths, visit, fourRepliesGrouped, fourRepliesCall, fourRepliesGroupedCall}
+use Rattle.visits.specs.Visit.{visit}
+use Rattle.four_replies.specs.Four.{visitPaths, fourRepliesGrouped, fourRepliesCall, fourRepliesGroupedCall}
 use Rattle.four_replies.proofs.Visits.{four-ours}
+use Rattle.choices.specs.Shared.{leavesShared}
+use Rattle.eight_replies.specs.Eight.{deskCount, eightRepliesGrouped, eightRepliesCall, eightRepliesGroupedCall}
+use Rattle.eight_replies.proofs.Eights.{eight-ours}
 use Rattle.site_second.specs.Second.{calledIn, againstCheck, secondReply, secondReplyGroupedCall}
 use Rattle.site_second.proofs.SecondReplies.{called-iff, second-is}
 use Rattle.site_second.proofs.SecondCalls.{second-ours}
@@ -196,5 +200,21 @@ module _ (part part′ : List ℕ) (t : TwoParts part part′) where
   visit-plain : (paths ns : List ℕ) (m : ℕ) → fourRepliesCall ns m part paths ≡ fourRepliesCall ns m part′ paths
   visit-plain paths ns m = rw (← four-ours ns m part paths, ← four-ours ns m part′ paths) (visit-grouped (bytesOf ourGroups) paths ns m)
 
+  desks-grouped : (groups paths : List ℕ) (n m : ℕ) → eightRepliesGroupedCall n m part groups paths ≡ eightRepliesGroupedCall n m part′ groups paths
+  unfolding eightRepliesGrouped
+  desks-grouped groups paths n m = rw (t .sized, t .sized′, t .read, t .read′)
+      (λ i. leavesShared (visit (roomCheck replyWords n m then groupsCheck groups then splitCheck deskCount paths)
+      (λ n path. first-grouped groups path n m i) (replicate deskCount n) (split deskCount paths)) n m)
+
+  desks-plain : (paths : List ℕ) (n m : ℕ) → eightRepliesCall n m part paths ≡ eightRepliesCall n m part′ paths
+  desks-plain paths n m = rw (← eight-ours n m part paths, ← eight-ours n m part′ paths) (desks-grouped (bytesOf ourGroups) paths n m)
+
 pub learning : Learning
-learning = record { first = first-either; second = second-either; visit = visit-plain; visit-grouped = visit-grouped }
+learning = record {
+  first = first-either;
+  second = second-either;
+  visit = visit-plain;
+  visit-grouped = visit-grouped;
+  desks = desks-plain;
+  desks-grouped = desks-grouped;
+}

@@ -14,6 +14,7 @@ use Rattle.files.specs.Limits.{partWords}
 use Rattle.files.specs.Refuse.{sizeCheck}
 use Rattle.files.specs.Part.{isNode, nodes, doors, edges, partCheck}
 use Rattle.four_replies.specs.Four.{fourRepliesCall, fourRepliesGroupedCall}
+use Rattle.eight_replies.specs.Eight.{eightRepliesCall, eightRepliesGroupedCall}
 use Rattle.demands.specs.Grouped.{Groups, firstCall, secondCall}
 
 -- the nodes of the part that the edges of x lead to, whatever their labels; stopped ones too, and from a stopped one on. A part is given by its
@@ -53,7 +54,7 @@ NamesReached part calls =
 
 -- What a hub may learn: both replies of two such parts are the same, number included, with buffers of the same lengths, for all bytes of a path, with
 -- our groups or with any bytes for the customer's, refused ones too; the second reply for all bytes of a call list that names no node of either part
--- unreached from its doors. And so is what a visit leaves, all numbers and outputs, for all bytes of a bundle of paths.
+-- unreached from its doors. And so is what a visit leaves, all numbers and outputs, and what desks share, for all bytes of a bundle of paths.
 pub record Learning : Type 0 where
   pub first : (part part′ : List ℕ) → TwoParts part part′
       → (groups : Groups) (path : List ℕ) (out work : ℕ) → firstCall groups out work part path ≡ firstCall groups out work part′ path
@@ -63,3 +64,6 @@ pub record Learning : Type 0 where
   pub visit : (part part′ : List ℕ) → TwoParts part part′ → (paths ns : List ℕ) (m : ℕ) → fourRepliesCall ns m part paths ≡ fourRepliesCall ns m part′ paths
   pub visit-grouped : (part part′ : List ℕ) → TwoParts part part′
       → (groups paths ns : List ℕ) (m : ℕ) → fourRepliesGroupedCall ns m part groups paths ≡ fourRepliesGroupedCall ns m part′ groups paths
+  pub desks : (part part′ : List ℕ) → TwoParts part part′ → (paths : List ℕ) (n m : ℕ) → eightRepliesCall n m part paths ≡ eightRepliesCall n m part′ paths
+  pub desks-grouped : (part part′ : List ℕ) → TwoParts part part′
+      → (groups paths : List ℕ) (n m : ℕ) → eightRepliesGroupedCall n m part groups paths ≡ eightRepliesGroupedCall n m part′ groups paths

@@ -7,6 +7,7 @@ ghost use Rattle.files.specs.Outcome.{left, leaves, leftLent, leavesLent};
 ghost use Rattle.path_bundles.specs.Packed.{leftSeveral};
 ghost use Rattle.site_first.specs.First.{firstReplyCall, firstReplyGroupedCall};
 ghost use Rattle.four_replies.specs.Four.{fourRepliesCall, fourRepliesGroupedCall};
+ghost use Rattle.eight_replies.specs.Eight.{eightRepliesCall, eightRepliesGroupedCall};
 ghost use Rattle.site_second.specs.Second.{secondReplyCall, secondReplyGroupedCall};
 ghost use Rattle.hub_calls.specs.CallList.{callListCall};
 ghost use Rattle.hub_join.specs.Join.{joinCall};
@@ -16,6 +17,8 @@ ghost use Rattle.dearest.specs.Dearest.{leftBoth, dearestCall};
 ghost use Rattle.generator.specs.Generate.{spent, generateCall};
 use cutter::call::cut;
 use dearest::call::dearest;
+use eight_replies::call::eight_replies;
+use eight_replies::call::eight_replies_grouped;
 use four_replies::call::four_replies;
 use four_replies::call::four_replies_grouped;
 use generator::call::generate;
@@ -213,4 +216,31 @@ pub extern "C" fn mowqachi_four_replies_grouped(
         (length (now (work .entry))) (now (part .entry)) (now (groups .entry)) (now (paths .entry)) ⌝ }
 {
     four_replies_grouped(part, groups, paths, out1, out2, out3, out4, work)
+}
+
+#[no_mangle]
+pub extern "C" fn mowqachi_eight_replies(
+    part: &[u8],
+    paths: &[u8],
+    out: &mut [u8],
+    work: &mut [u8],
+) -> u64
+    ensures { λ r. ⌜ left r (now (out .exit)) (now (work .exit))
+        ≡ eightRepliesCall (length (now (out .entry))) (length (now (work .entry))) (now (part .entry)) (now (paths .entry)) ⌝ }
+{
+    eight_replies(part, paths, out, work)
+}
+
+#[no_mangle]
+pub extern "C" fn mowqachi_eight_replies_grouped(
+    part: &[u8],
+    groups: &[u8],
+    paths: &[u8],
+    out: &mut [u8],
+    work: &mut [u8],
+) -> u64
+    ensures { λ r. ⌜ left r (now (out .exit)) (now (work .exit))
+        ≡ eightRepliesGroupedCall (length (now (out .entry))) (length (now (work .entry))) (now (part .entry)) (now (groups .entry)) (now (paths .entry)) ⌝ }
+{
+    eight_replies_grouped(part, groups, paths, out, work)
 }

@@ -16,7 +16,7 @@ use Rattle.files.proofs.Checks.{checks, then-iff, then-assoc, refused-first, pa
 use Rattle.files.proofs.Words.{words-length}
 use Rattle.files.specs.Limits.{finalWords, workBytes}
 use Rattle.output.specs.Writer.{Written, Writes, Filed}
-use Rattle.output.specs.Frame.{Check, input, also, _thenAll_, Checked, RoomFor, InputRead, InputsRead, Passed, Closes, Responds, withheld, settled}
+use Rattle.output.specs.Frame.{Check, input, also, _thenAll_, Checked, RoomFor, InputRead, InputsRead, Passed, closedAt, Closes, Responds, withheld, settled}
 use Rattle.output.proofs.Writing.{written-all, written-long, padded-head}
 
 -- The checks, for the proof of a call's `check`
@@ -91,17 +91,27 @@ opened limit n l h e =
     let k : suc (suc (suc (suc (n - 4)))) ≡ n = omega arith in
     record { out-is = e ∙ rw (take-all {A = ℕ} limit (0 ∷ []) (omega arith)) (ap zeros (sym k)); counted = omega arith }
 
+-- for the proof of `close_at`
+pub closed-at : (kind site n limit at end : ℕ) (out : List ℕ) {out′ : List ℕ} {h : ℕ} → end ≤ limit → h ≡ headerWord kind site n ((end - at) % 2 ^ 14)
+    → out′ ≡ putWord out at h → out′ ≡ closedAt kind site n limit at end out
+closed-at kind site n limit at end out l k e = e ∙ rw (le-leb end limit l, k)
+
+pub not-closed : (kind site n limit at end : ℕ) (out : List ℕ) → limit < end → out ≡ closedAt kind site n limit at end out
+not-closed kind site n limit at end out l = rw (lt-leb end limit l)
+
 -- for the proof of `close`
-pub closes : (kind site n limit : ℕ) (out : List ℕ) (count h : ℕ) {out′ : List ℕ} {r : ℕ} → 0 < limit → limit ≤ finalWords → 4 * limit ≤ length out
-    → h ≡ headerWord kind site n (count % 2 ^ 14) → out′ ≡ putWord out 0 h → r ≡ (15 unless leb count limit)
-    → Closes kind site n limit out count out′ r
-closes kind site n limit out count h {out′} {r} some small room k e q = record { fits = (some, room); closed = λ body w. by body w (leb count limit) refl }
+pub closes : (kind site n limit : ℕ) (out : List ℕ) (count : ℕ) {out′ : List ℕ} {r : ℕ} → 0 < limit → limit ≤ finalWords → 4 * limit ≤ length out
+    → out′ ≡ closedAt kind site n limit 0 count out → r ≡ (15 unless leb count limit) → Closes kind site n limit out count out′ r
+closes kind site n limit out count {out′} {r} some small room e q = record { fits = (some, room); closed = λ body w. by body w (leb count limit) refl }
   where
     by : (body : List ℕ) → Written limit (length out) (0 ∷ body) out count → (t : Bool) → leb count limit ≡ t → Filed limit (length out) (file kind site n body) out′ r
     by body w true t =
         let (all, short, counted) = written-all limit (length out) (0 ∷ body) (leb-true count limit t) w in
-        let i : h ≡ headerWord kind site n (suc (length body)) = omega (arith, k, counted, short) in
-        record { number = q ∙ rw (t, le-leb (suc (length body)) limit short); written = λ a. e ∙ rw (← i) (ap (λ o. putWord o 0 h) all ∙ padded-head (length out) 0 h body) }
+        let i : (count - 0) % 2 ^ 14 ≡ suc (length body) = omega (arith, counted, short) in
+        record {
+          number = q ∙ rw (t, le-leb (suc (length body)) limit short);
+          written = λ a. e ∙ rw (t, i) (ap (λ o. putWord o 0 (headerWord kind site n (suc (length body)))) all ∙ padded-head (length out) 0 (headerWord kind site n (suc (length body))) body);
+        }
     by body w false t =
         let l : limit < suc (length body) = written-long limit (length out) (0 ∷ body) (leb-false count limit t) w in
         record { number = q ∙ rw (t, lt-leb (suc (length body)) limit l); written = λ a. absurd (omega arith) }

@@ -4,3 +4,4 @@ pub mod Ranges
 pub mod Spelling
 pub mod Settling
 pub mod Frame
+pub mod Extending

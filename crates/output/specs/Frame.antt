@@ -1,10 +1,12 @@
 -- Inner. The frame of every call: its checks passed, its file is closed, it has answered, and is settled.
 use mathlib.Core.Path.{_≡_}
+use mathlib.Core.Bool.{cond}
 use mathlib.Core.List.{List, [], _∷_}
-use Prim.Native.Nat.{ℕ, zero, suc, _*_, _/_, _≤_, _<_}
+use Prim.Native.Nat.{ℕ, zero, suc, _-_, _*_, _/_, _%_, _^_, _≤_, _<_}
+use lib.Dec.{leb}
 use lib.ListN.{length}
-use Rattle.files.specs.Word.{words}
-use Rattle.files.specs.Field.{file}
+use Rattle.files.specs.Word.{words, putWord}
+use Rattle.files.specs.Field.{headerWord, file}
 use Rattle.files.specs.Refuse.{_then_, roomCheck, sizeCheck}
 use Rattle.files.specs.Outcome.{Outcome, Left, zeros, left, leaves}
 use Rattle.files.specs.Limits.{workBytes}
@@ -50,6 +52,10 @@ InputsRead (also c ∷ cs) = (c ≡ 0) × InputsRead cs
 pub record Passed (limit out work : ℕ) (cs : List Check) : Type 0 where
   pub room : RoomFor limit out work
   pub read : InputsRead cs
+
+-- the header of a file from word `at` to before word `end`, put where that is within the limit
+abbrev pub closedAt : ℕ → ℕ → ℕ → ℕ → ℕ → ℕ → List ℕ → List ℕ
+closedAt kind site n limit at end out = cond (leb end limit) (putWord out at (headerWord kind site n ((end - at) % 2 ^ 14))) out
 
 -- the header is put before whatever was written behind its place, as out′; r is 15 if that is over the limit, else 0
 pub record Closes (kind site n limit : ℕ) (out : List ℕ) (count : ℕ) (out′ : List ℕ) (r : ℕ) : Type 0 where

@@ -1,3 +1,4 @@
 pub mod Splitting
 pub mod Packing
 pub mod Places
+pub mod Sized

@@ -1,18 +1,19 @@
 -- Laws of going from header to header, by places in the bytes: for the proofs of the functions. Assumes nothing.
-use mathlib.Core.Path.{_≡_, refl, sym, _∙_, ap}
+use mathlib.Core.Path.{_≡_, refl, sym, _∙_, ap, subst}
 use mathlib.Core.Bool.{Bool, true, false, _&&_}
 use mathlib.Core.List.{List, [], _∷_}
 use Prim.Native.Nat.{ℕ, zero, suc, _+_, _-_, _^_, _≤_, _<_}
 use native.Mathlib.Numerals.{sub-one}
 use native.Mathlib.Omega.{arith}
+use borrow.Author.Tests.{ltb-false}
 use borrow.Rule.Slice.PartAt.{part-to-end}
 use mir.Syntax.{w64}
 use mir.Val.{Fits}
 use lib.Dec.{T, leb, ltb}
-use lib.ListN.{length, take, drop, length-drop, drop-of-length-le}
-use lib.Seq.{take-all, drop-drop}
+use lib.ListN.{length, getD, take, drop, length-drop, drop-of-length-le}
+use lib.Seq.{take-all, take-nil, drop-nil, drop-drop}
 use Rattle.files.proofs.Checks.{checks}
-use Rattle.path_bundles.specs.Split.{bytesIn, fileIn, behind, usesUp}
+use Rattle.path_bundles.specs.Split.{bytesIn, fileIn, behind, split, usesUp}
 use Rattle.path_bundles.specs.Place.{fileAt}
 
 -- a header that says more than there is gets all
@@ -109,3 +110,73 @@ pub going-last : {s f r : List ℕ} {at left : ℕ} → Going s f at left → le
 going-last {s} {f} {r} {at} {left} g h e =
     let z : left ≡ 0 = omega arith in
     e ∙ ap fileIn (part-to-end s at) ∙ rw z at (g .same)
+
+-- ---- the files of a split
+
+no-file : (i : ℕ) → fileAt i [] ≡ []
+no-file zero = take-nil (bytesIn [])
+no-file (suc i) = rw (drop-nil {A = ℕ} (bytesIn [])) (no-file i)
+
+-- the file of an index is the split's, and empty past the last
+pub file-split : (most i : ℕ) (s : List ℕ) → i < most → fileAt i s ≡ getD (split most s) i []
+file-split zero i s h = absurd (omega arith)
+file-split (suc k) zero [] h = take-nil (bytesIn [])
+file-split (suc k) zero (b ∷ s) h = refl
+file-split (suc k) (suc i) [] h = no-file (suc i)
+file-split (suc k) (suc i) (b ∷ s) h = file-split k i (behind (b ∷ s)) (omega arith)
+
+split-none : (k : ℕ) → split k [] ≡ []
+split-none zero = refl
+split-none (suc k) = refl
+
+split-step : (k : ℕ) (s : List ℕ) → 0 < length s → length (split (suc k) s) ≡ suc (length (split k (behind s)))
+split-step k [] h = absurd (omega arith)
+split-step k (b ∷ s) h = refl
+
+-- `count` files are met up to a place, and as many come behind it as there are
+pub record Counting (s : List ℕ) (most at count : ℕ) : Type 0 where
+  pub same : count + length (split (most - count) (drop at s)) ≡ length (split most s)
+  pub within : at ≤ length s
+  pub few : count ≤ most
+
+pub counting-first : (s : List ℕ) (most : ℕ) → Counting s most 0 0
+counting-first s most = let e : most - 0 ≡ most = omega arith in record { same = rw e (omega arith); within = omega arith; few = omega arith }
+
+module _ {s : List ℕ} {most at count : ℕ} (u : Counting s most at count) where
+  module _ (q : (ltb count most && ltb at (length s)) ≡ true) where
+    going : (count < most) × (at < length s)
+    going = let t : T (ltb count most && ltb at (length s)) = rw q tt in simp checks at t
+
+    pub counting-fits : most < 2 ^ 64 → Fits w64 (count + 1)
+    counting-fits l = omega (arith, going)
+
+    pub counting-less : most - (count + 1) < most - count
+    counting-less = omega (arith, going)
+
+    pub counting-more : {r : ℕ} → drop r s ≡ behind (drop at s) → r ≤ length s → Counting s most r (count + 1)
+    counting-more {r} e l =
+        let k : suc (most - (count + 1)) ≡ most - count = omega (arith, going) in
+        let step : count + length (split (suc (most - (count + 1))) (drop at s)) ≡ length (split most s) = rw k (u .same) in
+        record {
+          same = rw e (omega (arith, step, split-step (most - (count + 1)) (drop at s) (omega (arith, going, length-drop at s))));
+          within = l;
+          few = omega (arith, going);
+        }
+
+  pub counting-last : (ltb count most && ltb at (length s)) ≡ false → count ≡ length (split most s)
+  counting-last q = by (ltb count most) (ltb at (length s)) refl refl q
+    where
+      ends : (xs : List (List ℕ)) → split (most - count) (drop at s) ≡ xs → length xs ≡ 0 → count ≡ length (split most s)
+      ends xs e z = omega (arith, u .same, ap length e, z)
+
+      by : (a b : Bool) → ltb count most ≡ a → ltb at (length s) ≡ b → (a && b) ≡ false → count ≡ length (split most s)
+      by true true e f q = absurd (true-false q)
+        where
+          true-false : true ≡ false → ⊥
+          true-false q = subst T q tt
+      by true false e f q =
+          let l : length s ≤ at = ltb-false at (length s) f in
+          ends [] (rw (drop-of-length-le s {i = at} l) (split-none (most - count))) refl
+      by false b e f q =
+          let l : most - count ≡ 0 = omega (arith, ltb-false count most e) in
+          ends [] (rw l) refl

@@ -6,7 +6,7 @@ use files::word::word_at;
 ghost use mathlib.Core.Path.{_≡_};
 ghost use Prim.Native.Nat.{_+_, _≤_};
 ghost use lib.ListN.{length, drop};
-ghost use Rattle.path_bundles.specs.Split.{bytesIn, fileIn, behind, usesUp, splitCheck};
+ghost use Rattle.path_bundles.specs.Split.{bytesIn, fileIn, behind, split, usesUp, splitCheck};
 ghost use Rattle.path_bundles.specs.Place.{fileAt};
 
 // How many bytes the file at the front has, as its header says.
@@ -86,4 +86,17 @@ pub fn file_at(bundle: &[u8], index: usize) -> &[u8]
         left -= 1;
     }
     file_in(&bundle[at..])
+}
+
+// How many files there are, as far as `most`.
+pub fn count_files(bundle: &[u8], most: usize) -> usize
+    ensures { λ r. ⌜ r ≡ length (split most (now (bundle .entry))) ⌝ }
+{
+    let mut at = 0;
+    let mut count = 0;
+    while (count < most) & (at < bundle.len()) {
+        at = next(bundle, at);
+        count += 1;
+    }
+    count
 }

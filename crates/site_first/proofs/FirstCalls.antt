@@ -1,14 +1,14 @@
 -- The first reply as a call: its checks, the reply that is written, and the number 15. Assumes nothing.
 use mathlib.Core.Path.{_≡_, refl, sym, _∙_, ap}
 use mathlib.Core.List.{List}
-use Prim.Native.Nat.{ℕ, _*_, _^_, _%_, _≤_, _<_}
+use Prim.Native.Nat.{ℕ, _+_, _*_, _^_, _%_, _≤_, _<_}
 use native.Mathlib.Omega.{arith}
 use lib.ListN.{length, getD, drop}
 use Rattle.sets.specs.Sets.{Mem}
 use Rattle.files.specs.Word.{words, bytesOf}
 use Rattle.files.specs.Field.{siteOf, labelsOf, file}
 use Rattle.files.specs.Refuse.{_then_, roomCheck, sizeCheck}
-use Rattle.files.specs.Outcome.{zeros, outcome, Left, leaves}
+use Rattle.files.specs.Outcome.{outcome, Left, leaves}
 use Rattle.files.specs.Part.{partCheck}
 use Rattle.files.specs.Path.{pathCheck}
 use Rattle.files.specs.Groups.{groupsCheck, loaded, ourGroups}
@@ -21,9 +21,9 @@ use Rattle.paths.specs.Automaton.{Automates}
 use Rattle.paths.specs.declared.automaton.Automaton.{Automaton}
 use Rattle.expressions.proofs.Paths.{path-count, path-some}
 use Rattle.expressions.proofs.Loading.{ours-same}
-use Rattle.output.specs.Writer.{Writes, Filed}
-use Rattle.output.specs.Frame.{Closes}
-use Rattle.output.proofs.Frame.{filed}
+use Rattle.output.specs.Writer.{Counts, Writes, Extends}
+use Rattle.output.specs.Frame.{closedAt}
+use Rattle.output.proofs.Extending.{extended}
 use Rattle.first_replies.specs.FirstReply.{firstReply}
 use Rattle.first_replies.proofs.Alike.{first-same}
 use Rattle.reporting.proofs.Wording.{words-all}
@@ -37,15 +37,18 @@ reply-is : (part path : List ℕ) → partCheck part ≡ 0
 unfolding firstReply
 reply-is part path c = ap (file 7 (siteOf (getD part 0 0)) (labelsOf (getD path 0 0))) (sym (words-all part (exprOf (drop 1 path)) (labelsOf (getD path 0 0)) c))
 
--- of an output of m bytes, o₁ is cleared, o₂ has the doors, o₃ is closed; v is the part's header
-pub reply-filed : (part path : List ℕ) (a : Automaton) {m s n v count r : ℕ} {o₁ o₂ o₃ : List ℕ} → partCheck part ≡ 0 → pathCheck path ≡ 0
-    → Automates a (exprOf (drop 1 path)) → Closes 7 s n replyWords o₂ count o₃ r
-    → Writes replyWords (length o₁) o₁ 1 o₂ count (wordsBelow part (a .letters .n) (length part) (exprOf (drop 1 path)))
-    → s ≡ siteOf v → v ≡ getD part 0 0 → n ≡ a .letters .n % 16 → o₁ ≡ zeros m → length o₂ ≡ m → Filed replyWords m (firstReply part path) o₃ r
-reply-filed part path a {n = n} c read auto f g e i k z q =
+-- it is behind the words that stood in o₁, where o₂ has the doors, and o₃ the header; v is the part's header
+pub reply-extends : (part path : List ℕ) (a : Automaton) {at s n v end : ℕ} {o₁ o₂ o₃ : List ℕ} → partCheck part ≡ 0 → pathCheck path ≡ 0
+    → Automates a (exprOf (drop 1 path)) → at ≤ replyWords → 4 * replyWords ≤ length o₁
+    → Writes replyWords (length o₁) o₁ (at + 1) o₂ end (wordsBelow part (a .letters .n) (length part) (exprOf (drop 1 path)))
+    → Counts replyWords (at + 1) (length (wordsBelow part (a .letters .n) (length part) (exprOf (drop 1 path)))) end
+    → o₃ ≡ closedAt 7 s n replyWords at end o₂ → s ≡ siteOf v → v ≡ getD part 0 0 → n ≡ a .letters .n % 16
+    → Extends replyWords (length o₁) o₁ at (firstReply part path) o₃ end
+reply-extends part path a {at} {n = n} c read auto h room g k z e i q =
     let l : a .letters .n ≡ labelsOf (getD path 0 0) = auto .labels ∙ path-count path read in
-    let j : n ≡ labelsOf (getD path 0 0) = omega (arith, k, l) in
-    rw (reply-is part path c, ← l, ← i, ← e) (filed (wordsBelow part (a .letters .n) (length part) (exprOf (drop 1 path))) (rw (j, ← l) at f) g z q)
+    let j : n ≡ a .letters .n = omega (arith, q, l) in
+    rw (reply-is part path c, ← l, ← i, ← e)
+    (extended 7 _ (a .letters .n) replyWords at (wordsBelow part (a .letters .n) (length part) (exprOf (drop 1 path))) h (omega arith) room g k (rw j at z))
 
 -- ---- the call
 

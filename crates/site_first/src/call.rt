@@ -1,6 +1,7 @@
 // The first reply, as a call, with groups and without.
 ghost use mathlib.Core.Path.{_≡_};
 ghost use mathlib.Core.List.{[], _∷_};
+ghost use Prim.Native.Nat.{_≤_};
 ghost use lib.ListN.{length};
 ghost use Rattle.files.specs.Word.{words};
 ghost use Rattle.files.specs.Outcome.{left, leaves};
@@ -8,7 +9,7 @@ ghost use Rattle.files.specs.Part.{partCheck};
 ghost use Rattle.files.specs.Path.{pathCheck};
 ghost use Rattle.files.specs.Groups.{groupsCheck, loaded};
 ghost use Rattle.files.specs.Limits.{partWords, pathWords, replyWords};
-ghost use Rattle.output.specs.Writer.{Filed};
+ghost use Rattle.output.specs.Writer.{Extends, Filed};
 ghost use Rattle.output.specs.Frame.{input, also, Checked, Passed, Responds};
 ghost use Rattle.first_replies.specs.FirstReply.{firstReply};
 ghost use Rattle.site_first.specs.First.{firstReplyCall, firstReplyGroupedCall};
@@ -16,10 +17,11 @@ use files::buffer::clear;
 use files::field::site;
 use files::limits::REPLY_WORDS;
 use files::refuse::check_room;
+use files::refuse::refuse;
 use files::word::word_at;
 use groups::table::check_groups;
 use groups::table::our_groups;
-use output::close::close;
+use output::close::close_at;
 use output::settle::settle;
 use paths::automaton::position_automaton;
 use preparing::prepare::prepare;
@@ -47,20 +49,39 @@ fn check(part: &[u8], groups: &[u8], path: &[u8], out: usize, work: usize) -> u3
     check_path(path)
 }
 
-// Writes the reply, as far as it fits. Gives 15 where it is over its limit, and only then.
-pub fn write(part: &[u8], groups: &[u8], path: &[u8], out: &mut [u8], work: &mut [u8]) -> u32
+// Writes the reply behind the first `at` words of the output, as far as it fits. Gives where it ends, or one past the limit.
+pub fn append(
+    part: &[u8],
+    groups: &[u8],
+    path: &[u8],
+    at: usize,
+    out: &mut [u8],
+    work: &mut [u8],
+) -> usize
     requires { ⌜ Passed replyWords (length (now out)) (length (now work))
-        (input partWords (now part) (partCheck (words (now part))) ∷ also (groupsCheck (now groups)) ∷ input pathWords (now path) (pathCheck (words (now path))) ∷ []) ⌝ }
-    ensures { λ r. ⌜ Filed replyWords (length (now (out .entry))) (firstReply (words (now (part .entry))) (loaded (words (now (groups .entry))) (words (now (path .entry))))) (now (out .exit)) r ⌝ }
+        (input partWords (now part) (partCheck (words (now part))) ∷ also (groupsCheck (now groups)) ∷ input pathWords (now path) (pathCheck (words (now path))) ∷ []) × (at ≤ replyWords) ⌝ }
+    ensures { λ r. ⌜ Extends replyWords (length (now (out .entry))) (now (out .entry)) at
+        (firstReply (words (now (part .entry))) (loaded (words (now (groups .entry))) (words (now (path .entry))))) (now (out .exit)) r ⌝ }
 {
     let a = position_automaton(path, groups);
     let outside = prepare(part, a, work);
     let follow = a.follow;
     let n = a.letters.n;
-    clear(out);
-    let count = report_doors(part, follow, work, outside, n, out, 1);
+    let end = report_doors(part, follow, work, outside, n, out, at + 1);
     let s = site(word_at(part, 0));
-    close(7, s, n % 16, REPLY_WORDS, count, out)
+    close_at(7, s, n % 16, REPLY_WORDS, at, end, out);
+    end
+}
+
+// Writes the reply into a cleared output, as far as it fits. Gives 15 where it is over its limit, and only then.
+fn write(part: &[u8], groups: &[u8], path: &[u8], out: &mut [u8], work: &mut [u8]) -> u32
+    requires { ⌜ Passed replyWords (length (now out)) (length (now work))
+        (input partWords (now part) (partCheck (words (now part))) ∷ also (groupsCheck (now groups)) ∷ input pathWords (now path) (pathCheck (words (now path))) ∷ []) ⌝ }
+    ensures { λ r. ⌜ Filed replyWords (length (now (out .entry))) (firstReply (words (now (part .entry))) (loaded (words (now (groups .entry))) (words (now (path .entry))))) (now (out .exit)) r ⌝ }
+{
+    clear(out);
+    let end = append(part, groups, path, 0, out, work);
+    refuse(15, end <= REPLY_WORDS)
 }
 
 // The reply, or the number of the check that refuses.

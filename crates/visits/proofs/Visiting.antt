@@ -1,8 +1,8 @@
 -- A visit: its checks, what one path is answered, and that every number fits a byte. Assumes nothing.
-use mathlib.Core.Path.{_≡_, refl, sym, _∙_, ap}
+use mathlib.Core.Path.{_≡_, refl, sym, _∙_, ap, subst}
 use mathlib.Core.Bool.{Bool, true, false, cond}
 use mathlib.Core.List.{List, [], _∷_}
-use Prim.Native.Nat.{ℕ, zero, suc, _≤_, _<_}
+use Prim.Native.Nat.{ℕ, zero, suc, _+_, _*_, _≤_, _<_}
 use native.Mathlib.Nat.{sub-zero}
 use native.Mathlib.Omega.{arith}
 use borrow.Author.Tests.{leb-true, leb-false}
@@ -10,7 +10,7 @@ use lib.Dec.{leb}
 use lib.ListN.{length}
 use Rattle.sets.specs.Sets.{Mem, here, there}
 use Rattle.files.specs.Word.{words}
-use Rattle.files.specs.Refuse.{_then_, roomCheck, sizeCheck}
+use Rattle.files.specs.Refuse.{_then_, _unless_, roomCheck, sizeCheck}
 use Rattle.files.specs.Outcome.{Outcome, refused, accepted, outcome, zeros, leaves}
 use Rattle.files.specs.Part.{partCheck}
 use Rattle.files.specs.Path.{pathCheck}
@@ -18,16 +18,17 @@ use Rattle.files.specs.Groups.{groupsCheck, loaded}
 use Rattle.files.specs.Limits.{partWords, pathWords, replyWords}
 use Rattle.files.proofs.Checks.{then-iff, room-checked}
 use Rattle.files.proofs.Numbers.{Among, among, among-below, among-then, among-first, among-more, size-numbers, part-numbers, path-numbers, groups-numbers, outcome-numbers}
-use Rattle.output.specs.Writer.{Filed}
+use Rattle.output.specs.Writer.{Extends}
 use Rattle.output.specs.Frame.{input, also, Passed, Responds, withheld}
 use Rattle.output.proofs.Frame.{read-is, passed, answer-refused, answer-filed, withholds}
+use Rattle.output.proofs.Extending.{extends-filed, extends-none}
 use Rattle.path_bundles.specs.Split.{splitCheck}
 use Rattle.path_bundles.specs.Place.{fileAt}
 use Rattle.path_bundles.specs.Packed.{numberOf}
 use Rattle.first_replies.specs.FirstReply.{firstReply}
 use Rattle.site_first.specs.First.{firstReplyGroupedCall}
 use Rattle.visits.specs.Whole.{shortest, wholeGroupedNumber}
-use Rattle.visits.specs.Answered.{VisitChecked, SiteRead, SiteReady, answered, answeredBy, PathAnswered, PathLeft}
+use Rattle.visits.specs.Answered.{VisitChecked, SiteRead, SiteReady, answered, answeredBy, ownBy, own, PathAsked, PathAnswered, PathLeft}
 
 -- ---- the checks of the whole
 
@@ -72,6 +73,15 @@ site-ready {most} {m} {n} {l} {whole} {part} {groups} {paths} ns c i q = record 
       rw q (site-read ns d i);
 }
 
+pub ready-split : {most n m whole : ℕ} {part groups paths : List ℕ} → VisitChecked most n m part groups paths whole → whole ≡ 0 → splitCheck most paths ≡ 0
+ready-split {most} {n} {m} {whole} {part} {groups} {paths} c z =
+    let d : VisitChecked most (shortest (n ∷ [])) m part groups paths 0 = rw z at c in
+    bundle-split (n ∷ []) d
+
+-- with buffers of the same lengths
+pub same-ready : {whole n m k l : ℕ} {part groups : List ℕ} → SiteReady whole n m part groups → k ≡ n → l ≡ m → SiteReady whole k l part groups
+same-ready r e q = rw (e, q) r
+
 -- ---- one path
 
 -- where buffers, part and groups have passed, the path's own checks are left
@@ -87,29 +97,61 @@ pub answered-some : (part groups path : List ℕ) → 0 < length path
 answered-some part groups [] h = absurd (omega arith)
 answered-some part groups (b ∷ path) h = refl
 
-pub whole-refused : (whole : ℕ) {part groups path out : List ℕ} {n : ℕ} → (whole ≡ 0 → ⊥) → PathAnswered whole part groups path n out whole
-whole-refused zero z = absurd (z refl)
-whole-refused (suc k) z = record { responds = record { number = refl; output = λ e. absurd (omega arith) } }
+-- what is answered is what the path comes to by itself, within the limit
+own-by : (c : ℕ) (reply : List ℕ) → outcome c replyWords reply ≡ outcome (ownBy c reply .number) replyWords (ownBy c reply .reply)
+own-by zero reply = refl
+own-by (suc k) reply = refl
 
-module _ (part groups path : List ℕ) {whole n : ℕ} (w : whole ≡ 0) where
-  -- the whole is not refused
-  own : {out : List ℕ} {r : ℕ} → Responds (answered part groups path) n out r → PathAnswered whole part groups path n out r
-  own f = rw w (record { responds = f })
+own-refused : (c : ℕ) (reply : List ℕ) → (c ≡ 0 → ⊥) → (ownBy c reply .number ≡ c) × (ownBy c reply .reply ≡ [])
+own-refused zero reply z = absurd (z refl)
+own-refused (suc k) reply z = (refl, refl)
 
-  pub path-none : {out : List ℕ} → length path ≡ 0 → out ≡ zeros n → PathAnswered whole part groups path n out 0
-  path-none {out} z e = own (by path z)
-    where
-      by : (path : List ℕ) → length path ≡ 0 → Responds (answered part groups path) n out 0
-      by [] z = record { number = refl; output = λ q. e ∙ ap zeros (sym (sub-zero n)) }
-      by (b ∷ path) z = absurd (omega arith)
+own-passed : (c : ℕ) (reply : List ℕ) → c ≡ 0 → (ownBy c reply .number ≡ 0) × (ownBy c reply .reply ≡ reply)
+own-passed zero reply z = (refl, refl)
+own-passed (suc k) reply z = absurd (omega arith)
 
-  module _ (h : length path ≡ 0 → ⊥) {k : ℕ} (e : k ≡ (sizeCheck pathWords path then pathCheck (words path))) where
-    pub path-refused : (out : List ℕ) → (k ≡ 0 → ⊥) → PathAnswered whole part groups path n out k
-    path-refused out z = own (rw (answered-some part groups path (omega arith)) (answer-refused _ replyWords _ n out e z))
+pub own-answered : (whole : ℕ) (part groups path : List ℕ)
+    → answeredBy whole part groups path ≡ outcome (own whole part groups path .number) replyWords (own whole part groups path .reply)
+own-answered zero part groups [] = refl
+own-answered zero part groups (b ∷ path) =
+    own-by (sizeCheck pathWords (b ∷ path) then pathCheck (words (b ∷ path))) (firstReply (words part) (loaded (words groups) (words (b ∷ path))))
+own-answered (suc k) part groups path = refl
 
-    pub path-filed : {r : ℕ} {out : List ℕ} → k ≡ 0 → Filed replyWords n (firstReply (words part) (loaded (words groups) (words path))) out r
-        → PathAnswered whole part groups path n out r
-    path-filed z f = own (rw (answered-some part groups path (omega arith)) (answer-filed _ replyWords _ n e z f))
+-- it is asked: the whole is refused
+module _ (out : List ℕ) {at : ℕ} (h : at ≤ replyWords) where
+  pub asked-whole : (whole : ℕ) (part groups path : List ℕ) → (whole ≡ 0 → ⊥) → PathAsked whole part groups path (length out) out at out whole at
+  asked-whole zero part groups path z = absurd (z refl)
+  asked-whole (suc k) part groups path z = record { number-is = refl; extends = extends-none replyWords out at h }
+
+  -- there is no path
+  pub asked-none : {whole : ℕ} (part groups path : List ℕ) → whole ≡ 0 → length path ≡ 0 → PathAsked whole part groups path (length out) out at out 0 at
+  asked-none part groups [] w z = rw w (record { number-is = refl; extends = extends-none replyWords out at h })
+  asked-none part groups (b ∷ path) w z = absurd (omega arith)
+
+  -- its own checks refuse, or its reply is written
+  pub asked-refused : {whole k : ℕ} (part groups path : List ℕ) → whole ≡ 0 → (length path ≡ 0 → ⊥) → k ≡ (sizeCheck pathWords path then pathCheck (words path)) → (k ≡ 0 → ⊥)
+      → PathAsked whole part groups path (length out) out at out k at
+  asked-refused part groups [] w s e z = absurd (s refl)
+  asked-refused part groups (b ∷ path) w s e z =
+      let (p, q) = own-refused _ (firstReply (words part) (loaded (words groups) (words (b ∷ path)))) (λ i. z (e ∙ i)) in
+      rw w (record { number-is = e ∙ sym p; extends = subst (λ vs. Extends replyWords (length out) out at vs out at) (sym q) (extends-none replyWords out at h) })
+
+pub asked-reply : {whole k n at end : ℕ} (part groups path : List ℕ) {o₁ o₂ : List ℕ} → whole ≡ 0 → (length path ≡ 0 → ⊥) → k ≡ (sizeCheck pathWords path then pathCheck (words path)) → k ≡ 0
+    → Extends replyWords n o₁ at (firstReply (words part) (loaded (words groups) (words path))) o₂ end → PathAsked whole part groups path n o₁ at o₂ 0 end
+asked-reply part groups [] w s e z f = absurd (s refl)
+asked-reply {n = n} {at} {end} part groups (b ∷ path) {o₁} {o₂} w s e z f =
+    let (p, q) = own-passed _ (firstReply (words part) (loaded (words groups) (words (b ∷ path)))) (sym e ∙ z) in
+    rw w (record { number-is = sym p; extends = subst (λ vs. Extends replyWords n o₁ at vs o₂ end) (sym q) f })
+
+-- it is answered, in a cleared output
+pub path-answered : {whole m number end q r : ℕ} (part groups path : List ℕ) {o₁ o₂ : List ℕ} → PathAsked whole part groups path (length o₁) o₁ 0 o₂ number end
+    → o₁ ≡ zeros m → length o₁ ≡ m → q ≡ (15 unless leb end replyWords) → r ≡ (number then q) → PathAnswered whole part groups path m o₂ r
+path-answered {whole} {m} {number} {end} {q} {r} part groups path {o₁} {o₂} f z l e d =
+    record { responds = rw (own-answered whole part groups path, ← f .number-is) (by number d) }
+  where
+    by : (k : ℕ) → r ≡ (k then q) → Responds (outcome k replyWords (own whole part groups path .reply)) m o₂ r
+    by zero d = answer-filed 0 replyWords (own whole part groups path .reply) m refl refl (extends-filed (own whole part groups path .reply) (f .extends) z l (d ∙ e))
+    by (suc k) d = rw d (answer-refused (suc k) replyWords (own whole part groups path .reply) m o₂ refl (λ i. omega arith))
 
 -- for the writer of its reply
 pub path-passed : {whole n m : ℕ} {part groups : List ℕ} (path : List ℕ) {k : ℕ} → SiteReady whole n m part groups → whole ≡ 0 → k ≡ 0
@@ -163,6 +205,39 @@ answered-small zero part groups [] h = omega arith
 answered-small zero part groups (b ∷ path) h =
     small (outcome-numbers replyWords (firstReply (words part) (loaded (words groups) (words (b ∷ path)))) 0 0 tt (path-among (b ∷ path)))
 answered-small (suc k) part groups path h = h
+
+-- what a path comes to by itself, ahead of the limit
+pub own-small : (whole : ℕ) (part groups path : List ℕ) → whole < 256 → own whole part groups path .number < 256
+own-small zero part groups [] h = omega arith
+own-small zero part groups (b ∷ path) h = by (sizeCheck pathWords (b ∷ path) then pathCheck (words (b ∷ path))) (small (path-among (b ∷ path)))
+  where
+    by : (c : ℕ) → c < 256 → ownBy c (firstReply (words part) (loaded (words groups) (words (b ∷ path)))) .number < 256
+    by zero l = l
+    by (suc c) l = l
+own-small (suc k) part groups path h = h
+
+-- a refused path has no reply
+pub own-formed : (whole : ℕ) (part groups path : List ℕ) → (own whole part groups path .number ≡ 0 → ⊥) → own whole part groups path .reply ≡ []
+own-formed zero part groups [] h = refl
+own-formed zero part groups (b ∷ path) h =
+    by (sizeCheck pathWords (b ∷ path) then pathCheck (words (b ∷ path))) (firstReply (words part) (loaded (words groups) (words (b ∷ path)))) h
+  where
+    by : (c : ℕ) (reply : List ℕ) → (ownBy c reply .number ≡ 0 → ⊥) → ownBy c reply .reply ≡ []
+    by zero reply h = absurd (h refl)
+    by (suc c) reply h = refl
+own-formed (suc k) part groups path h = refl
+
+-- its reply has room where it is within the limit
+pub own-room : (whole : ℕ) {n m : ℕ} {part groups : List ℕ} (path : List ℕ) (w : ℕ) → SiteReady whole n m part groups → 4 * w ≤ n
+    → w + length (own whole part groups path .reply) ≤ replyWords → 4 * (w + length (own whole part groups path .reply)) ≤ n
+own-room zero path w r h l = omega (arith, r .read refl .room .holds)
+own-room (suc k) path w r h l = omega arith
+
+-- there is none where there is no path
+pub own-none : (whole : ℕ) (part groups path : List ℕ) → path ≡ [] → own whole part groups path .reply ≡ []
+own-none zero part groups [] e = refl
+own-none zero part groups (b ∷ path) e = absurd (omega (arith, ap length e))
+own-none (suc k) part groups path e = refl
 
 pub left-small : {most a m whole : ℕ} {part groups paths : List ℕ} {i n r : ℕ} {out : List ℕ} → VisitChecked most a m part groups paths whole
     → PathLeft whole part groups paths i n r out → r < 256

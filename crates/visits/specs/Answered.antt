@@ -9,6 +9,7 @@ use Rattle.files.specs.Part.{partCheck}
 use Rattle.files.specs.Path.{pathCheck}
 use Rattle.files.specs.Groups.{groupsCheck, loaded}
 use Rattle.files.specs.Limits.{partWords, pathWords, replyWords}
+use Rattle.output.specs.Writer.{Extends}
 use Rattle.output.specs.Frame.{input, also, Checked, RoomFor, InputRead, Responds}
 use Rattle.path_bundles.specs.Split.{splitCheck}
 use Rattle.path_bundles.specs.Place.{fileAt}
@@ -39,6 +40,27 @@ answered part groups (b ∷ path) =
 abbrev pub answeredBy : ℕ → List ℕ → List ℕ → List ℕ → Outcome
 answeredBy zero part groups path = answered part groups path
 answeredBy (suc k) part groups path = refused (suc k)
+
+-- what a path comes to by itself, ahead of the limit: its own number, and the words of its reply, none where it is refused or where there is no path
+pub record Own : Type 0 where
+  pub number : ℕ
+  pub reply : List ℕ
+
+abbrev pub ownBy : ℕ → List ℕ → Own
+ownBy zero reply = record { number = 0; reply = reply }
+ownBy (suc k) reply = record { number = suc k; reply = [] }
+
+-- where the whole has this number
+abbrev pub own : ℕ → List ℕ → List ℕ → List ℕ → Own
+own zero part groups [] = ownBy 0 []
+own zero part groups (b ∷ path) =
+    ownBy (sizeCheck pathWords (b ∷ path) then pathCheck (words (b ∷ path))) (firstReply (words part) (loaded (words groups) (words (b ∷ path))))
+own (suc k) part groups path = ownBy (suc k) []
+
+-- its own number, and its reply behind the first `at` words of an output of n bytes, which ends at `end`
+pub record PathAsked (whole : ℕ) (part groups path : List ℕ) (n : ℕ) (out : List ℕ) (at : ℕ) (out′ : List ℕ) (number end : ℕ) : Type 0 where
+  pub number-is : number ≡ own whole part groups path .number
+  pub extends : Extends replyWords n out at (own whole part groups path .reply) out′ end
 
 -- a path has number r, and if that is 0 its reply, or nothing, stands in `out`, which has n bytes
 pub record PathAnswered (whole : ℕ) (part groups path : List ℕ) (n : ℕ) (out : List ℕ) (r : ℕ) : Type 0 where

@@ -12,3 +12,4 @@ pub mod IdleLinks
 pub mod Growing
 pub mod Bench
 pub mod Visits
+pub mod Desks

@@ -25,13 +25,13 @@ abbrev outs : List ℕ
 outs = 16384 ∷ 16384 ∷ 16384 ∷ 16384 ∷ []
 
 -- the empty word; the same under a header of another kind; a path of 65 words
-abbrev emptyWord : List ℕ
+abbrev pub emptyWord : List ℕ
 emptyWord = 0x40000002 ∷ 0x60000000 ∷ []
 
-abbrev otherKind : List ℕ
+abbrev pub otherKind : List ℕ
 otherKind = 0x10000002 ∷ 0x60000000 ∷ []
 
-unfoldable long : List ℕ
+unfoldable pub long : List ℕ
 long = 0x40100041 ∷ 0x50005005 ∷ replicate 63 0x60000003
 
 abbrev bundle : List ℕ

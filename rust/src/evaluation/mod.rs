@@ -1,11 +1,12 @@
 //! Document 01 evaluated, with labels outside a range (request 1), plants that are drawn (request 2), groups that a call is handed (request
 //! 3), the length of a first reply before each door (request 4), links that nobody walks (request 5), several paths in one visit (request 6),
-//! stopped nodes (request 7), eight operands waiting at most (request 9), which parts no reply tells apart and which plants are grown (request
-//! 12), and the dearest part and path (request 13): every call as a function from bytes, numbers and buffer lengths to a refusal or the
-//! result's words. It is written from the documents alone, for plainness and not for speed, and shares no method with the library where they
-//! leave a choice.
+//! stopped nodes (request 7), eight operands waiting at most (request 9), one reply for eight askers (request 11), which parts no reply tells
+//! apart and which plants are grown (request 12), and the dearest part and path (request 13): every call as a function from bytes, numbers and
+//! buffer lengths to a refusal or the result's words. It is written from the documents alone, for plainness and not for speed, and shares no
+//! method with the library where they leave a choice.
 
 pub mod dearest;
+pub mod desks;
 pub mod generator;
 pub mod groups;
 pub mod hub;
@@ -21,6 +22,7 @@ pub mod visit;
 pub mod words;
 
 use self::dearest::{check_counts, dearest_files, Counts, Rooms};
+use self::desks::{put_in, DESKS};
 use self::generator::Source;
 use self::groups::{read_groups, Groups};
 use self::hub::*;
@@ -120,6 +122,15 @@ pub fn four_replies(part: &[u8], groups: Option<&[u8]>, paths: &[u8], rooms: vis
     let groups = input("groups", read_groups(groups))?;
     let files = input("paths", split_paths(paths, VISIT_PATHS))?;
     Ok(files.into_iter().map(|path| first_reply_to(&part, &groups, path)).collect())
+}
+
+/// The first replies to up to eight paths, of which those that are accepted stand one after another in one output.
+pub fn eight_replies(part: &[u8], groups: Option<&[u8]>, paths: &[u8], room: Room) -> Visited {
+    check_room(room, FILE_LIMIT)?;
+    let part = input("part", read_part(part))?;
+    let groups = input("groups", read_groups(groups))?;
+    let files = input("paths", split_paths(paths, DESKS))?;
+    Ok(put_in(files.into_iter().map(|path| first_reply_to(&part, &groups, path)).collect()))
 }
 
 pub fn call_list(bundle: &[u8], room: Room) -> Outcome {

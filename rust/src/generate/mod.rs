@@ -1,10 +1,11 @@
-//! Random files, counts, states, visits, whole questions and damage.
+//! Random files, counts, states, visits, desks, whole questions and damage.
 
 pub mod alike;
 pub mod bundle;
 pub mod calls;
 pub mod counts;
 pub mod damage;
+pub mod desks;
 pub mod groups;
 pub mod growth;
 pub mod path;

@@ -53,9 +53,9 @@ pub fn refused_file(random: &mut Random, path: &[u32]) -> Vec<u32> {
     words
 }
 
-/// One to four files, each with the length that it says: paths, and files that are refused.
-fn mixed(random: &mut Random, grouped: bool) -> AskedAtOnce {
-    let (count, refused) = (random.between(1, VISIT_PATHS), random.pick(&[0, 0, 40, 100]));
+/// So many files, each with the length that it says: paths, and files that are refused.
+pub fn mixed(random: &mut Random, grouped: bool, count: usize) -> AskedAtOnce {
+    let refused = random.pick(&[0, 0, 40, 100]);
     let (part, groups, mut files) = asked_at_once(random, some_plant, grouped, count);
     for path in &mut files {
         if random.chance(refused) {
@@ -70,10 +70,11 @@ fn mixed(random: &mut Random, grouped: bool) -> AskedAtOnce {
 
 /// An accepted part, groups if they are asked for, and a bundle that is not refused as a whole.
 pub fn asked(random: &mut Random, grouped: bool) -> AskedAtOnce {
-    match random.chance(4) {
-        true => dearly_asked_at_once(random, grouped),
-        false => mixed(random, grouped),
+    if random.chance(4) {
+        return dearly_asked_at_once(random, grouped);
     }
+    let count = random.between(1, VISIT_PATHS);
+    mixed(random, grouped, count)
 }
 
 /// Another file in the place of one, so that all have so many words.
@@ -93,8 +94,8 @@ pub fn some_headers(random: &mut Random) -> Vec<u32> {
     (0..random.between(1, 12)).map(|_| header(random)).collect()
 }
 
-/// One fault in the lengths of the files, or in how many there are; or just as many words as a bundle may have.
-fn damage_lengths(random: &mut Random, files: &mut Vec<Vec<u32>>) {
+/// One fault in the lengths of the files, or in how many there are, for a call that takes so many; or just as many words as a bundle may have.
+fn damage_lengths(random: &mut Random, files: &mut Vec<Vec<u32>>, most: usize) {
     let at = random.below(files.len());
     let (own, left) = (files[at].len(), files[at..].iter().map(Vec::len).sum::<usize>());
     match random.below(9) {
@@ -102,7 +103,7 @@ fn damage_lengths(random: &mut Random, files: &mut Vec<Vec<u32>>) {
         1 => files.insert(at, vec![PATH << 28]),
         2 => set_length(&mut files[at], left + 1),
         3 => set_length(&mut files[at], random.pick(&[own - 1, own + 1, own + 4096, own + 8192])),
-        4 => files.resize(VISIT_PATHS + random.pick(&[1, 1, 2, 4]), files[at].clone()),
+        4 => files.resize(most + random.pick(&[1, 1, 2, 4]), files[at].clone()),
         5 => *files = vec![some_headers(random)],
         _ => {
             let words = random.pick(&[BUNDLE_LIMIT, BUNDLE_LIMIT, BUNDLE_LIMIT + 1]);
@@ -112,10 +113,10 @@ fn damage_lengths(random: &mut Random, files: &mut Vec<Vec<u32>>) {
 }
 
 /// The files one after another, with a fault mostly.
-fn damaged_paths(random: &mut Random, mut files: Vec<Vec<u32>>) -> Vec<u8> {
+fn damaged_paths(random: &mut Random, mut files: Vec<Vec<u32>>, most: usize) -> Vec<u8> {
     let by_size = random.chance(35);
     if !by_size {
-        damage_lengths(random, &mut files);
+        damage_lengths(random, &mut files, most);
     }
     let mut bytes = bytes_of(&files.concat());
     match random.below(4) {
@@ -138,7 +139,13 @@ pub fn visit(random: &mut Random, grouped: bool) -> Visit {
     if random.chance(4) {
         return visit_of(&dearly_asked_at_once(random, grouped));
     }
-    let (part, groups, files) = mixed(random, grouped);
+    let count = random.between(1, VISIT_PATHS);
+    damaged_visit(random, grouped, count, VISIT_PATHS)
+}
+
+/// Some of so many paths, part and groups damaged, or none, for a call that takes at most so many.
+pub fn damaged_visit(random: &mut Random, grouped: bool, count: usize, most: usize) -> Visit {
+    let (part, groups, files) = mixed(random, grouped, count);
     let damages = match random.below(10) {
         0..=4 => 0,
         5 | 6 => 1 << random.below(3),
@@ -146,7 +153,7 @@ pub fn visit(random: &mut Random, grouped: bool) -> Visit {
     };
     let part = single(random, &part.words(), FILE_LIMIT, damages & 1 != 0);
     let paths = match damages & 2 != 0 {
-        true => damaged_paths(random, files),
+        true => damaged_paths(random, files, most),
         false => bytes_of(&files.concat()),
     };
     let groups = groups.map(|groups| single(random, &groups, GROUP_COUNT, damages & 4 != 0));

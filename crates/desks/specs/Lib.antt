@@ -1,0 +1,3 @@
+pub mod Owns
+pub mod Stands
+pub mod Turns

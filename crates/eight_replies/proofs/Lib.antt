@@ -1,0 +1,4 @@
+pub mod Laying
+pub mod Sharing
+pub mod Eights
+pub mod Promised
