@@ -1,8 +1,9 @@
-//! The library's fifteen calls on what is asked, and the paths of a visit or of desks by single calls.
+//! The library's seventeen calls on what is asked, and the paths of a visit or of desks by single calls.
 use crate::calls;
 use crate::desks::packed_eight;
 use crate::inputs::Ask;
 use crate::timing::{outputs, PART_BYTES, PATH_BYTES, REPLY_BYTES};
+use crate::triples::counted;
 use crate::visits::{four_outputs, packed, singly};
 
 pub fn old_search(ask: &Ask, out: &mut [u8], work: &mut [u8]) -> u32 {
@@ -87,4 +88,16 @@ pub fn generate(ask: &Ask, out: &mut [u8], work: &mut [u8]) -> u32 {
     let number = calls::generate(&mut state, nodes, edges, plant, work);
     ask.state.set(state);
     number
+}
+
+pub fn from_triples(ask: &Ask, out: &mut [u8], work: &mut [u8]) -> u32 {
+    let [whole] = outputs(out, [PART_BYTES]);
+    calls::from_triples(ask.next_triples(), whole, work)
+}
+
+/// Before the call the count is one that no call leaves.
+pub fn to_triples(ask: &Ask, out: &mut [u8], work: &mut [u8]) -> u64 {
+    let mut count = u32::MAX;
+    let number = calls::to_triples(&ask.file, out, &mut count, work);
+    counted(number, count)
 }

@@ -1,4 +1,4 @@
-//! The fifteen calls of the library beside plain Rust versions of the same algorithms, and beside better ones where such are known.
+//! The seventeen calls of the library beside plain Rust versions of the same algorithms, and beside better ones where such are known.
 mod best;
 #[path = "../rust/src/calls.rs"]
 mod calls;
@@ -9,10 +9,11 @@ mod library;
 mod plain;
 mod table;
 mod timing;
+mod triples;
 mod visits;
 mod words;
 
-use table::{Call, BEST, BUNDLE, PART, PLAIN_SINGLE, PLANT, SINGLE, UNGROUPED};
+use table::{Call, BEST, BUNDLE, MOST_TRIPLES, PART, PLAIN_SINGLE, PLANT, SINGLE, TRIPLES, UNGROUPED};
 use timing::{Run, Version};
 
 fn versions(runs: Vec<Run<u32>>) -> Vec<Version> {
@@ -97,6 +98,23 @@ fn desks() -> Vec<Call> {
     ]
 }
 
+fn triples() -> Vec<Call> {
+    use library as l;
+    use plain as p;
+    let from = versions(vec![l::from_triples, p::from_triples]);
+    let to = vec![Version::Counted(l::to_triples), Version::Counted(p::to_triples)];
+    vec![
+        Call { name: "from triples", sizes: TRIPLES, shapes: inputs::from_triples(), versions: from, columns: vec![] },
+        Call { name: "to triples", sizes: PART, shapes: inputs::to_triples(), versions: to, columns: vec![BEST] },
+    ]
+}
+
+/// The same from triples beside a version with Rust's sort.
+fn sorting() -> Call {
+    let runs = vec![library::from_triples, plain::from_triples, best::from_triples];
+    Call { name: "from triples", sizes: MOST_TRIPLES, shapes: inputs::from_triples(), versions: versions(runs), columns: vec![] }
+}
+
 /// From every shape of the calls whose cost hangs on more than the number of words. First replies are dear, so small parts give more tries.
 fn search(seconds: f64) {
     for call in calls() {
@@ -116,6 +134,9 @@ fn main() {
     let words: Vec<String> = std::env::args().skip(1).collect();
     match words.first().map(String::as_str) {
         Some("search") => search(words.get(1).and_then(|w| w.parse().ok()).unwrap_or(5.0)),
-        _ => table::print(&calls().into_iter().chain(visits()).chain(desks()).collect::<Vec<Call>>()),
+        _ => {
+            let calls = calls().into_iter().chain(visits()).chain(desks()).chain(triples());
+            table::print(&calls.collect::<Vec<Call>>(), &sorting());
+        }
     }
 }

@@ -18,6 +18,8 @@ pub type Sizes = (&'static [usize], &'static str);
 pub const PART: Sizes = (&[512, 1024, 2048, 4096], "words");
 pub const BUNDLE: Sizes = (&[512, 1024, 2048, 4096, 8192], "words");
 pub const PLANT: Sizes = (&[16, 32, 64, 128, 256], "nodes");
+pub const TRIPLES: Sizes = (&[1534, 3070, 6142, 12_286], "words");
+pub const MOST_TRIPLES: Sizes = (&[12_286], "words");
 
 /// A column behind the ratios to plain: its title, and what stands there.
 pub type Column = (&'static str, fn(&[Measured]) -> String);
@@ -52,14 +54,14 @@ fn list(values: impl Iterator<Item = f64>, places: usize) -> String {
     values.map(|v| format!("{v:.places$}")).collect::<Vec<_>>().join(" ")
 }
 
-/// Times that stay below ten microseconds have a digit more.
-fn times(sizes: &[Measured]) -> String {
-    let micros = || sizes.iter().map(|m| m.least[0] * 1e6);
-    list(micros(), usize::from(micros().all(|time| time < 10.0)))
+/// Microseconds. Times that stay below ten have a digit more.
+fn times(seconds: impl Iterator<Item = f64> + Clone) -> String {
+    let micros = seconds.map(|time| time * 1e6);
+    list(micros.clone(), usize::from(micros.clone().all(|time| time < 10.0)))
 }
 
 fn row(shape: &Shape, sizes: &[Measured], columns: &[Column]) {
-    let library = times(sizes);
+    let library = times(sizes.iter().map(|m| m.least[0]));
     let growth = list(sizes.windows(2).map(|m| m[1].least[0] / m[0].least[0]), 1);
     let ratio = list(sizes.iter().map(|m| m.ratios[1]), 2);
     let more: String = columns.iter().map(|(_, cell)| format!(" {} |", cell(sizes))).collect();
@@ -95,8 +97,23 @@ fn table(call: &Call) -> Worst {
     worst
 }
 
-pub fn print(calls: &[Call]) {
+/// At one size the times of three versions, of which the third is named, and those of the first two over its own.
+fn beside(call: &Call, third: &str) {
+    let (sizes, unit) = call.sizes;
+    println!("\n### {}, {} {unit}, beside {third}\n", call.name, sizes[0]);
+    println!("| input | us | us, plain | us, {third} | times {third} | plain, times {third} |\n|---|---|---|---|---|---|");
+    for shape in &call.shapes {
+        let sizes = call.measured(shape);
+        let [library, plain, other] = [0, 1, 2].map(|v| times(sizes.iter().map(|m| m.least[v])));
+        let (ratio, plain_ratio) = (by_least(&sizes, 0, 2), by_least(&sizes, 1, 2));
+        println!("| {} | {library} | {plain} | {other} | {ratio} | {plain_ratio} |", shape.name);
+    }
+}
+
+/// The tables of all calls, that of a call beside Rust's sort, and what is said of all.
+pub fn print(calls: &[Call], sorting: &Call) {
     let worst: Vec<Worst> = calls.iter().map(table).collect();
+    beside(sorting, "Rust's sort");
     println!("\n### In all\n\n| call | highest ratio to plain | dearest input | seconds |\n|---|---|---|---|");
     for (call, w) in calls.iter().zip(worst) {
         println!("| {} | {:.2} | {} | {:.6} |", call.name, w.ratio, w.shape, w.seconds);

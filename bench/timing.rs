@@ -1,6 +1,7 @@
 //! Versions of a call on the same inputs: their answers are compared, then they are timed by turns.
 use crate::desks::{chosen, DESKS};
 use crate::inputs::Ask;
+use crate::triples::TRIPLE_WORDS;
 
 pub type Run<N> = fn(&Ask, &mut [u8], &mut [u8]) -> N;
 
@@ -13,6 +14,8 @@ pub enum Version {
     Desks(Run<u64>),
     /// Single calls for desks: their numbers likewise, and an output for each desk.
     Singly(Run<u64>),
+    /// A call with a number and, above it, a count.
+    Counted(Run<u64>),
 }
 
 /// The seconds that are spent on one input in all rounds, but for calls that take longer.
@@ -41,11 +44,12 @@ pub fn now() -> f64 {
     time.seconds as f64 + time.nanoseconds as f64 * 1e-9
 }
 
-/// The bytes of an output, at least: for a part, a path, a reply, a final list.
+/// The bytes of an output, at least: for a part, a path, a reply, a final list, triples.
 pub const PART_BYTES: usize = 16_384;
 pub const PATH_BYTES: usize = 256;
 pub const REPLY_BYTES: usize = 16_384;
 const LIST_BYTES: usize = 32_768;
+const TRIPLE_BYTES: usize = 4 * TRIPLE_WORDS;
 
 pub struct Buffers {
     out: Vec<u8>,
@@ -57,14 +61,18 @@ impl Buffers {
         Buffers { out: vec![0x55; DESKS * REPLY_BYTES], work: vec![0x55; 32_768] }
     }
 
-    /// A version is handed a final list's output, and for several paths eight replies', of which it takes as many as it needs. What is behind
-    /// that stays as it is.
+    /// A version is handed a final list's output, one that leaves a count that of triples, and for several paths eight replies', of which it
+    /// takes as many as it needs. What is behind that stays as it is.
     fn call(&mut self, version: Version, ask: &Ask) -> u64 {
-        let length = if ask.paths.is_empty() { LIST_BYTES } else { DESKS * REPLY_BYTES };
+        let length = match version {
+            Version::Counted(_) => TRIPLE_BYTES,
+            _ if ask.paths.is_empty() => LIST_BYTES,
+            _ => DESKS * REPLY_BYTES,
+        };
         let (out, work) = (&mut self.out[..length], &mut self.work[..]);
         match version {
             Version::Word(run) => u64::from(run(ask, out, work)),
-            Version::Desks(run) | Version::Singly(run) => run(ask, out, work),
+            Version::Desks(run) | Version::Singly(run) | Version::Counted(run) => run(ask, out, work),
         }
     }
 

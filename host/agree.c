@@ -58,6 +58,7 @@ static void parse(struct sample *s, enum subject subject, const char *text)
 #define WALKED_1 "71300008 80000002 90000001 a0000032 a0000632 90000003 a0000032 a0000632"
 #define STRAY "70000004 80010001 90000000 a0000020"
 #define EMPTY "40000002 60000000"
+#define TRIPLES "1 3 5 2 1 5 2 2 6 3 1 5 2"
 #define THREE EMPTY "; " EMPTY "; " EMPTY
 /* The result of a visit, or of desks, that is refused with 17 as a whole. */
 #define NO_SPLIT 0x11111111
@@ -65,7 +66,8 @@ static void parse(struct sample *s, enum subject subject, const char *text)
 
 /* Document 01's table and end-to-end files, then rows of docs/DECISIONS.md on which readings differ, then stopped nodes, then labels outside a
    range, then groups: ours, a press maker's, and wrong ones; then reach words to no door, in rows that nobody follows and in others, and what comes
-   ahead of 14; then bundles of paths, with the number of each path in a byte of the result, in a visit and for desks. */
+   ahead of 14; then bundles of paths, with the number of each path in a byte of the result, in a visit and for desks; then triples, and wholes that
+   they can say and that they cannot. */
 static const struct example {
     enum subject subject;
     uint64_t result;
@@ -172,10 +174,29 @@ static const struct example {
     {AS_DESKS, NO_DESKS, THREE "; " THREE "; " EMPTY "; 40000003 60000000"},
     {AS_DESKS, NO_DESKS, THREE "; 40000000 60000000; " P},
     {AS_DESKS, NO_DESKS, THREE "; " THREE "; " THREE},
+    {AS_TRIPLES, 0, TRIPLES},
+    {AS_TRIPLES, 0, "ffff"},
+    {AS_TRIPLES, 0, "9 1 5 2"},
+    {AS_TRIPLES, 2, ""},
+    {AS_TRIPLES, 18, "1 1"},
+    {AS_TRIPLES, 18, "1 1 5"},
+    {AS_TRIPLES, 18, "10000"},
+    {AS_TRIPLES, 18, "1 10000 fff ffff"},
+    {AS_TRIPLES, 18, "1 ffff 1000 ffff"},
+    {AS_TRIPLES, 18, "1 ffff fff 10000"},
+    {AS_TRIPLES, 18, W},
+    {AS_SAID, 0, W},
+    {AS_SAID, 0, "10000002 20030001"},
+    {AS_SAID, 0, "10000004 20030001 20000002 30050002"},
+    {AS_SAID, 19, HALTED},
+    {AS_SAID, 19, "10000002 20070001"},
+    {AS_SAID, 19, "10000003 20030001 20010002"},
+    {AS_SAID, 8, "10000004 20030001 20040002 30050003"},
+    {AS_SAID, 7, "10000003 20010001 20040002"},
 };
 
 /* Files that the damaged ones are made of, with and without stopped nodes, labels outside a range, groups and reach words to no door, a path in
-   which as many operands wait as may, and bundles of paths for a visit and for desks, some of them full. */
+   which as many operands wait as may, bundles of paths for a visit and for desks, some of them full, and triples and wholes that they can say. */
 static const struct example seeds[] = {
     {AS_PART, 0, "10000005 20030001 30050002 20010003 30050002"},
     {AS_PART, 0, "1a000009 20040000 30000000 30000001 3fff0000 20070007 37ff0007 3800ffff 2005ffff"},
@@ -203,6 +224,10 @@ static const struct example seeds[] = {
     {AS_PATHS, 0, "40100003 51000007 60000003; " EMPTY "; " BUT "; 40200004 50005005 51000003 60000002"},
     {AS_DESKS, 0, P "; " THREE "; 40100002 52005005"},
     {AS_DESKS, 0, "40100003 51000007 60000003; " THREE "; 40200004 50005005 51000003 60000002; " THREE},
+    {AS_TRIPLES, 0, TRIPLES},
+    {AS_TRIPLES, 0, "ffff 0 fff ffff ffff 0 0 7 800 7 0 fff ffff"},
+    {AS_SAID, 0, W},
+    {AS_SAID, 0, "1f00000a 20000000 30010000 20030002 20010003 30000003 37ff0000 3fff0002 2000ffff 3fffffff"},
 };
 
 static void copy(struct sample *to, const struct sample *from)
@@ -614,6 +639,23 @@ static void test_long_list(uint32_t further, bool door, uint32_t number, size_t 
     must_be("words of the long call list", words, words_of(found));
 }
 
+/* Loops of one node, so many: two words more as a whole. Then the same triples over and over, up to the limit of a triple file, and past it. */
+static void test_triples(uint32_t loops, uint32_t number)
+{
+    static struct sample s;
+    parse(&s, AS_TRIPLES, "9");
+    for (uint32_t k = 0; s.file[0].count < MOWQACHI_TRIPLE_WORDS; k++) {
+        if (k == loops)
+            expect(&s, number);
+        push(&s.file[0], 9);
+        push(&s.file[0], k % loops);
+        push(&s.file[0], 9);
+    }
+    expect(&s, number);
+    push(&s.file[0], 9);
+    expect(&s, MOWQACHI_SIZE);
+}
+
 /* Number 1, ahead of inputs that would be refused too; longer buffers are fine. */
 static void test_room(const struct asked *asked)
 {
@@ -639,7 +681,7 @@ static void test_room(const struct asked *asked)
 static void test_buffers(void)
 {
     static const char *const texts[] = {W, P, "10000003 20010002 30060003", FIRST_0 " " FIRST_1, CALL_WORDS, "d0300001 d1300002 e0000002",
-                                        P " " EMPTY " " BUT " " GROUPED};
+                                        P " " EMPTY " " BUT " " GROUPED, TRIPLES};
     enum { TEXTS = sizeof texts / sizeof *texts };
     static const uint8_t cuts[] = {0, 1, 0};
     static uint8_t bytes[TEXTS][4 * 64];
@@ -655,7 +697,7 @@ static void test_buffers(void)
                                   {SECOND_REPLY_GROUPED, {f[2], our_groups, f[1], f[4]}, {0}}, {FOUR_REPLIES, {f[2], f[6]}, {0}},
                                   {FOUR_REPLIES_GROUPED, {f[2], our_groups, f[6]}, {0}}, {EIGHT_REPLIES, {f[2], f[6]}, {0}},
                                   {EIGHT_REPLIES_GROUPED, {f[2], our_groups, f[6]}, {0}}, {DEAREST, {{NULL, 0}}, {2, 3, 4}},
-                                  {GENERATE, {{NULL, 0}}, {7, 3, 4}}};
+                                  {GENERATE, {{NULL, 0}}, {7, 3, 4}}, {FROM_TRIPLES, {f[7]}, {0}}, {TO_TRIPLES, {f[0]}, {7}}};
     for (int c = 0; c < CALL_COUNT; c++)
         test_room(&asked[c]);
 }
@@ -700,6 +742,8 @@ int main(int argc, char **argv)
     test_long_list(15, true, MOWQACHI_RESULT, 0);
     test_long_list(14, false, MOWQACHI_DOOR, 0);
     test_long_list(15, false, MOWQACHI_DOOR, 0);
+    test_triples(MOWQACHI_PART_WORDS - 2, 0);
+    test_triples(MOWQACHI_PART_WORDS - 1, MOWQACHI_RESULT);
     test_buffers();
     for (size_t i = 0; i < sizeof seeds / sizeof *seeds && samples > 0; i++) {
         parse(&s, seeds[i].subject, seeds[i].text);

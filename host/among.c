@@ -4,13 +4,13 @@
 
 #include "drafts.h"
 
-/* The inputs; the buffers, the last of them the working buffer; then the lent state between two words. */
-enum { OUT = INPUTS, WORK = OUT + OUTPUTS, STATE, PLACES, MOST_APART = 9, STRETCH = 1 << 18, WORD = sizeof(uint32_t) };
+/* The inputs; the buffers, the last of them the working buffer; then the host's word between two others. */
+enum { OUT = INPUTS, WORK = OUT + OUTPUTS, WORDS, PLACES, MOST_APART = 9, STRETCH = 1 << 18, WORD = sizeof(uint32_t) };
 
-/* Where each begins, and how many bytes there are in all. The state's words are aligned. */
+/* Where each begins, and how many bytes there are in all. The three words are aligned. */
 static size_t lay_out(const struct asked *asked, const struct room *room, size_t *starts)
 {
-    size_t lens[PLACES] = {[WORK] = room->work, [STATE] = 3 * WORD}, end = 0;
+    size_t lens[PLACES] = {[WORK] = room->work, [WORDS] = 3 * WORD}, end = 0;
     uint32_t order[PLACES];
     for (int k = 0; k < INPUTS; k++)
         lens[k] = asked->in[k].len;
@@ -19,7 +19,7 @@ static size_t lay_out(const struct asked *asked, const struct room *room, size_t
     draw_order(order, PLACES);
     for (int k = 0; k < PLACES; k++) {
         end += 1 + draw(MOST_APART);
-        if (order[k] == STATE)
+        if (order[k] == WORDS)
             end += (WORD - end % WORD) % WORD;
         starts[order[k]] = end;
         end += lens[order[k]];
@@ -63,21 +63,21 @@ const char *check_among(const struct asked *asked, struct room room, const struc
 {
     static uint32_t stretch[STRETCH / WORD], expected[STRETCH / WORD];
     uint8_t *bytes = (uint8_t *)stretch;
-    size_t starts[PLACES], end = lay_out(asked, &room, starts), state = starts[STATE] / WORD + 1;
+    size_t starts[PLACES], end = lay_out(asked, &room, starts), word = starts[WORDS] / WORD + 1;
     memcpy(stretch, used_bytes(), end);
     struct asked among = put_inputs(bytes, starts, asked);
     memcpy(expected, stretch, end);
     expect((uint8_t *)expected, &room, starts, due);
-    if (takes_state(asked->call)) {
-        stretch[state] = asked->values[0];
-        expected[state] = due->state;
+    if (writes_word(asked->call)) {
+        stretch[word] = asked->values[0];
+        expected[word] = due->word;
     }
-    struct buffers buffers = {.work = bytes + starts[WORK], .room = room, .state = &stretch[state]};
+    struct buffers buffers = {.work = bytes + starts[WORK], .room = room, .word = &stretch[word]};
     for (int k = 0; k < OUTPUTS; k++)
         buffers.out[k] = bytes + starts[OUT + k];
     if (invoke(&among, &buffers) != due->result)
         return "another number";
-    if (stretch[state] != expected[state])
-        return "another state";
+    if (stretch[word] != expected[word])
+        return "another state or count";
     return memcmp(stretch, expected, end) == 0 ? NULL : "other bytes";
 }

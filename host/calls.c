@@ -9,7 +9,7 @@
 
 const char *const call_names[CALL_COUNT] = {
     "old_search", "cut", "first_reply", "call_list", "second_reply", "join", "old_search_grouped", "first_reply_grouped", "second_reply_grouped",
-    "four_replies", "four_replies_grouped", "eight_replies", "eight_replies_grouped", "dearest", "generate"};
+    "four_replies", "four_replies_grouped", "eight_replies", "eight_replies_grouped", "dearest", "generate", "from_triples", "to_triples"};
 const struct span our_groups = {(const uint8_t *)mowqachi_our_groups, sizeof mowqachi_our_groups};
 
 static unsigned given[CALL_COUNT];
@@ -21,6 +21,7 @@ struct room room_for(enum call call)
     static const size_t bytes[CALL_COUNT][OUTPUTS] = {
         [OLD_SEARCH] = {MOWQACHI_LIST_BYTES}, [OLD_SEARCH_GROUPED] = {MOWQACHI_LIST_BYTES}, [JOIN] = {MOWQACHI_LIST_BYTES},
         [CUT] = {MOWQACHI_PART_BYTES}, [GENERATE] = {MOWQACHI_PART_BYTES}, [DEAREST] = {MOWQACHI_PART_BYTES, MOWQACHI_PATH_BYTES},
+        [FROM_TRIPLES] = {MOWQACHI_PART_BYTES}, [TO_TRIPLES] = {MOWQACHI_TRIPLE_BYTES},
         [FIRST_REPLY] = {MOWQACHI_REPLY_BYTES}, [FIRST_REPLY_GROUPED] = {MOWQACHI_REPLY_BYTES}, [CALL_LIST] = {MOWQACHI_CALLS_BYTES},
         [SECOND_REPLY] = {MOWQACHI_REPLY_BYTES}, [SECOND_REPLY_GROUPED] = {MOWQACHI_REPLY_BYTES},
         [FOUR_REPLIES] = {MOWQACHI_REPLY_BYTES, MOWQACHI_REPLY_BYTES, MOWQACHI_REPLY_BYTES, MOWQACHI_REPLY_BYTES},
@@ -54,7 +55,7 @@ struct span result_of(int file)
     return span_of(&results[file]);
 }
 
-uint32_t state_left(void)
+uint32_t word_left(void)
 {
     return left;
 }
@@ -77,9 +78,14 @@ static enum call grouped(enum call call)
     }
 }
 
-bool takes_state(enum call call)
+bool hands_count(enum call call)
 {
-    return call == GENERATE;
+    return call == TO_TRIPLES;
+}
+
+bool writes_word(enum call call)
+{
+    return call == GENERATE || hands_count(call);
 }
 
 bool reads_path(enum call call)
@@ -160,7 +166,9 @@ uint64_t invoke(const struct asked *a, const struct buffers *b)
     case EIGHT_REPLIES_GROUPED:
         return mowqachi_eight_replies_grouped(x->bytes, x->len, y->bytes, y->len, z->bytes, z->len, out, out_len, work, work_len);
     case DEAREST: return mowqachi_dearest(v[0], v[1], v[2], o[0], l[0], o[1], l[1], work, work_len);
-    default: return mowqachi_generate(b->state, v[1], v[2], out, out_len, work, work_len);
+    case GENERATE: return mowqachi_generate(b->word, v[1], v[2], out, out_len, work, work_len);
+    case FROM_TRIPLES: return mowqachi_from_triples(x->bytes, x->len, out, out_len, work, work_len);
+    default: return mowqachi_to_triples(x->bytes, x->len, out, out_len, b->word, work, work_len);
     }
 }
 
@@ -187,23 +195,23 @@ static void give_back(const uint8_t *bytes)
     free((void *)(bytes - 1));
 }
 
-/* A block of the state alone, or none. */
-static uint32_t *lend_state(const struct asked *a)
+/* A block of the host's word alone, or none. */
+static uint32_t *lend_word(const struct asked *a)
 {
-    if (!takes_state(a->call))
+    if (!writes_word(a->call))
         return NULL;
-    uint32_t *state = malloc(sizeof *state);
-    if (state == NULL)
+    uint32_t *word = malloc(sizeof *word);
+    if (word == NULL)
         abort();
-    *state = a->values[0];
-    return state;
+    *word = a->values[0];
+    return word;
 }
 
-static void take_state(uint32_t *state)
+static void take_word(uint32_t *word)
 {
-    if (state != NULL)
-        left = *state;
-    free(state);
+    if (word != NULL)
+        left = *word;
+    free(word);
 }
 
 static bool zero_from(const uint8_t *bytes, size_t from, size_t len)
@@ -229,18 +237,15 @@ static bool right_numbers(const struct asked *a, uint64_t result)
     bool right = true;
     for (int k = 0; k < most_files(a->call); k++) {
         uint32_t number = number_for(a->call, result, k);
-        bool known = number <= MOWQACHI_PATHS || number == MOWQACHI_COUNTS;
+        bool known = number <= MOWQACHI_UNSAID || number == MOWQACHI_COUNTS;
         right = right && known && (number == 0 || has_file(a, k) || result == number_for_all(a->call, number));
     }
     return right;
 }
 
-/* Whether an output that must have `least` bytes holds a file, which is kept, and zeros; or where none is due zeros alone. */
-static bool keep_result(struct draft *result, bool due, const uint8_t *out, size_t len, size_t least)
+/* Whether an output that must have `least` bytes holds a file of so many, which is kept, and zeros. */
+static bool keep_result(struct draft *result, size_t kept, const uint8_t *out, size_t len, size_t least)
 {
-    if (!due)
-        return zero_from(out, 0, len);
-    size_t kept = mowqachi_file_bytes(out);
     if (kept < 4 || kept > least || !zero_from(out, kept, len))
         return false;
     put_bytes(result, (struct span){out, kept});
@@ -253,13 +258,19 @@ static bool is_due(const struct asked *a, uint64_t result, int file)
     return number_for(a->call, result, file) == 0 && has_file(a, file);
 }
 
-/* Each file in an output of its own. */
+/* Each file in an output of its own, as long as its header says, or the count that goes with it; where none is due zeros alone. */
 static bool keep_results(const struct asked *a, uint64_t result, const struct buffers *b)
 {
     struct room least = room_for(a->call);
     bool right = true;
-    for (int k = 0; k < most_files(a->call); k++)
-        right = keep_result(&results[k], is_due(a, result, k), b->out[k], b->room.out[k], least.out[k]) && right;
+    for (int k = 0; k < most_files(a->call); k++) {
+        const uint8_t *out = b->out[k];
+        size_t len = b->room.out[k];
+        if (!is_due(a, result, k))
+            right = zero_from(out, 0, len) && right;
+        else
+            right = keep_result(&results[k], hands_count(a->call) ? 4 * (size_t)*b->word : mowqachi_file_bytes(out), out, len, least.out[k]) && right;
+    }
     return right;
 }
 
@@ -281,14 +292,19 @@ static bool keep_shared(const struct asked *a, uint64_t result, const struct buf
     return zero_from(out, at, b->room.out[0]);
 }
 
+/* Whether the host's word is right after a refusal: a state as it was, a count 0. */
+static bool right_word(const struct asked *a, uint64_t result, const struct buffers *b)
+{
+    return result == 0 || !writes_word(a->call) || *b->word == (hands_count(a->call) ? 0 : a->values[0]);
+}
+
 static void check_left(const struct asked *a, uint64_t result, const struct buffers *b)
 {
-    bool moved = takes_state(a->call) && *b->state != a->values[0];
-    bool right = right_numbers(a, result) && zero_from(b->work, 0, b->room.work) && (result == 0 || !moved);
+    bool right = right_numbers(a, result) && zero_from(b->work, 0, b->room.work) && right_word(a, result, b);
     for (int k = 0; k < FILES; k++)
         results[k].len = 0;
     if (!right || !(shares_output(a->call) ? keep_shared : keep_results)(a, result, b)) {
-        printf("%s: wrong numbers, buffers or state after 0x%" PRIx64 "\n", call_names[a->call], result);
+        printf("%s: wrong numbers, buffers, state or count after 0x%" PRIx64 "\n", call_names[a->call], result);
         exit(1);
     }
 }
@@ -296,7 +312,7 @@ static void check_left(const struct asked *a, uint64_t result, const struct buff
 uint64_t call_with(const struct asked *a, struct room room)
 {
     struct asked lent = *a;
-    struct buffers b = {.work = lend(room.work, 0x5a), .room = room, .state = lend_state(a)};
+    struct buffers b = {.work = lend(room.work, 0x5a), .room = room, .word = lend_word(a)};
     for (int k = 0; k < INPUTS; k++)
         lent.in[k] = lend_copy(a->in[k]);
     for (int k = 0; k < OUTPUTS; k++)
@@ -313,7 +329,7 @@ uint64_t call_with(const struct asked *a, struct room room)
     for (int k = 0; k < OUTPUTS; k++)
         give_back(b.out[k]);
     give_back(b.work);
-    take_state(b.state);
+    take_word(b.word);
     return result;
 }
 

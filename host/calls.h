@@ -1,4 +1,4 @@
-/* The fifteen calls for tests: on exact copies of the inputs at odd addresses, into used buffers, and with a look at what is left. */
+/* The seventeen calls for tests: on exact copies of the inputs at odd addresses, into used buffers, and with a look at what is left. */
 #ifndef CALLS_H
 #define CALLS_H
 
@@ -7,13 +7,13 @@
 
 enum call {
     OLD_SEARCH, CUT, FIRST_REPLY, CALL_LIST, SECOND_REPLY, JOIN, OLD_SEARCH_GROUPED, FIRST_REPLY_GROUPED, SECOND_REPLY_GROUPED,
-    FOUR_REPLIES, FOUR_REPLIES_GROUPED, EIGHT_REPLIES, EIGHT_REPLIES_GROUPED, DEAREST, GENERATE, CALL_COUNT
+    FOUR_REPLIES, FOUR_REPLIES_GROUPED, EIGHT_REPLIES, EIGHT_REPLIES_GROUPED, DEAREST, GENERATE, FROM_TRIPLES, TO_TRIPLES, CALL_COUNT
 };
 /* Of any call at most; files are those in all outputs together. All numbers are below NUMBERS. */
 enum { INPUTS = 4, VALUES = 3, OUTPUTS = MOWQACHI_VISIT_PATHS, FILES = MOWQACHI_DESKS, NUMBERS = MOWQACHI_COUNTS + 1 };
 
 /* The inputs of a call in its order; those that it has not are empty. Then its numbers: the site asked; or doors, outside targets and labels; or
-   the state that it is lent, nodes and edges per node. */
+   the state that it is lent, nodes and edges per node; or what stands where it is to write its count. */
 struct asked {
     enum call call;
     struct span in[INPUTS];
@@ -25,11 +25,11 @@ struct room {
     size_t out[OUTPUTS], work;
 };
 
-/* The buffers that a call is handed, and the state, where it is lent one. */
+/* The buffers that a call is handed, and the host's word that it writes, where it has one. */
 struct buffers {
     uint8_t *out[OUTPUTS], *work;
     struct room room;
-    uint32_t *state;
+    uint32_t *word;
 };
 
 extern const char *const call_names[CALL_COUNT];
@@ -40,8 +40,9 @@ struct room room_for(enum call call);
 bool too_short(enum call call, const struct room *room);
 /* Lengths that are drawn, and may be too short. */
 struct room draw_room(enum call call);
-/* Whether a call is lent a state, the first of its numbers. */
-bool takes_state(enum call call);
+/* Whether a call writes a word of the host's, the first of its numbers: a state that it is lent, or a count that it hands out. */
+bool writes_word(enum call call);
+bool hands_count(enum call call);
 /* Whether a call reads a path, or a bundle of paths, by our groups. */
 bool reads_path(enum call call);
 /* Such a call asked with groups. */
@@ -69,8 +70,8 @@ uint64_t call_with(const struct asked *a, struct room room);
 uint64_t call(const struct asked *a, struct span *found);
 /* The last call's file in an output, or of a desk, until the next call; empty after a refusal, and where it has no such output or no path for it. */
 struct span result_of(int file);
-/* The state as the last call that was lent one gave it back. */
-uint32_t state_left(void);
+/* The word as the last call that wrote one left it. */
+uint32_t word_left(void);
 /* Whether two calls with the same outputs leave the same, result and all buffers, whose lengths are drawn and may be too short. */
 bool leave_the_same(const struct asked *a, const struct asked *b);
 /* The numbers that a call has given so far, as bits. */

@@ -194,7 +194,8 @@ const char *number_name(unsigned number)
 {
     static const char *const names[] = {
         "ACCEPTED", "BUFFER", "SIZE", "HEADER", "LENGTH", "WORD", "ORDER", "ROOT",
-        "TARGET", "OPERAND", "STATE", "CUT", "BUNDLE", "TWICE", "DOOR", "RESULT", "GROUPS", "PATHS", [MOWQACHI_COUNTS] = "COUNTS"};
+        "TARGET", "OPERAND", "STATE", "CUT", "BUNDLE", "TWICE", "DOOR", "RESULT", "GROUPS", "PATHS", "TRIPLES", "UNSAID",
+        [MOWQACHI_COUNTS] = "COUNTS"};
     return names[number];
 }
 
@@ -504,6 +505,52 @@ struct verdict check_visit(struct span part, struct span groups, struct span pat
         v = check_groups(groups);
     if (v.number == 0)
         v = check_paths(paths, most);
+    return v;
+}
+
+static struct verdict check_field(uint32_t w, size_t i)
+{
+    static const char *const whys[] = {"the target is over 65535", "the source is over 65535", "the label is over 4095"};
+    if (w < (i % 3 == 2 ? MOWQACHI_LABELS : MOWQACHI_NODES))
+        return fine;
+    return at(fault(18, i == 0 ? "the root is over 65535; a triple file has no header" : whys[i % 3]), i);
+}
+
+struct verdict check_triples(struct span s)
+{
+    struct verdict v = check_size(s, MOWQACHI_TRIPLE_WORDS);
+    if (v.number == 0 && words_of(s) % 3 != 1)
+        v = at(fault(18, "the words are not one more than a multiple of three"), 1 + 3 * triples_of(s));
+    for (size_t i = 0; v.number == 0 && i < words_of(s); i++)
+        v = check_field(word_at(s, i), i);
+    if (v.number != 0)
+        return v;
+    struct edition edition = edition_of(s);
+    return whole_words(&edition) <= MOWQACHI_PART_WORDS ? fine : at(fault(15, "the whole would be over 4096 words"), words_of(s));
+}
+
+/* 19: no triple says that the node at word i is there, or that it is stopped. */
+static struct verdict check_unsaid(struct span whole, const struct nodes *targets, size_t i)
+{
+    uint32_t w = word_at(whole, i);
+    bool has_edge = i + 1 < words_of(whole) && kind_of(word_at(whole, i + 1)) == EDGE;
+    if (stopped_bit(w))
+        return fault(19, "the node is stopped");
+    if (!root_bit(w) && !has_edge && !has_node(targets, node_of(w)))
+        return fault(19, "the node is not the root, and has no edge of its own and none to it");
+    return fine;
+}
+
+struct verdict check_said(struct span s)
+{
+    struct nodes targets;
+    struct verdict v = check_whole(s);
+    if (v.number != 0)
+        return v;
+    collect(&targets, s, EDGE);
+    for (size_t i = 1; v.number == 0 && i < words_of(s); i++)
+        if (kind_of(word_at(s, i)) == NODE)
+            v = at(check_unsaid(s, &targets, i), i);
     return v;
 }
 

@@ -1,6 +1,6 @@
-/* The checks of document 01, with document 02's groups, its number 14 and its bundles of paths, in their order, with the word at which one fails.
-   They share no code with the library, so that the two can be held against each other (agree.c, strays.c, bundles.c); both read the documents as
-   docs/DECISIONS.md does. */
+/* The checks of document 01, with document 02's groups, its number 14, its bundles of paths and its triple edition, in their order, with the word at
+   which one fails. They share no code with the library, so that the two can be held against each other (agree.c, strays.c, bundles.c, editions.c);
+   both read the documents as docs/DECISIONS.md does. */
 #ifndef CHECKS_H
 #define CHECKS_H
 
@@ -58,6 +58,10 @@ struct verdict check_groups(struct span s);
 struct verdict check_paths(struct span s, size_t most);
 /* What refuses a visit as a whole, once there is room: its part, its groups, then its bundle of paths. */
 struct verdict check_visit(struct span part, struct span groups, struct span paths, size_t most);
+/* A triple file: 2, 18, and 15 where its whole would be over the limit. */
+struct verdict check_triples(struct span s);
+/* A whole, and then whether triples can say it: 19. */
+struct verdict check_said(struct span s);
 /* An accepted call list against an accepted path and an accepted part. */
 struct verdict check_against(struct span part, struct span path, struct span calls);
 

@@ -11,12 +11,12 @@
 
 enum { WRITTEN_EVERY = 1000, GROUPED_EVERY = 4, VISITED_EVERY = 4, MOST_ASKED = 5 };
 
-/* The kinds of the calls' results: the inspector must accept what the library writes. */
+/* The kinds of the calls' results, 0 for triples: the inspector must accept what the library writes. */
 static const unsigned result_kinds[CALL_COUNT] = {
-    LIST, PART, FIRST, CALLS, SECOND, LIST, LIST, FIRST, SECOND, FIRST, FIRST, FIRST, FIRST, PART, PART};
+    LIST, PART, FIRST, CALLS, SECOND, LIST, LIST, FIRST, SECOND, FIRST, FIRST, FIRST, FIRST, PART, PART, PART, 0};
 
 const char *const options[SUBJECTS] = {"--part", "--whole", "--path", "--calls", "--firsts", "--seconds", "--paths", "--desks", "--cut", "--groups",
-                                       "--asked"};
+                                       "--asked", "--triples", "--said"};
 
 struct input {
     size_t len;
@@ -64,6 +64,7 @@ bool headless(const struct sample *s, int k)
     case AS_CUT: return k == 1;
     case AS_GROUPS: return k == 0;
     case AS_ASKED: return s->files == INPUTS && k == 1;
+    case AS_TRIPLES: return true;
     default: return false;
     }
 }
@@ -111,6 +112,8 @@ static struct verdict inspected(const struct sample *s)
         v = check_whole(a);
         return v.number != 0 ? v : check_cuts(a, b, s->site);
     case AS_GROUPS: return then(check_groups(a), check_file(b, PATH));
+    case AS_TRIPLES: return check_triples(a);
+    case AS_SAID: return check_said(a);
     default:
         return s->files == INPUTS ? inspected_asked(a, check_groups(b), c, input(3)) : inspected_asked(a, check_groups(our_groups), b, c);
     }
@@ -227,6 +230,8 @@ static int calls_for(const struct sample *s, struct asked asked[MOST_ASKED])
     case AS_PATHS: asked[0] = (struct asked){FOUR_REPLIES, {lone_part, a}, {0}}; return 1;
     case AS_DESKS: asked[0] = (struct asked){EIGHT_REPLIES, {lone_part, a}, {0}}; return 1;
     case AS_CUT: asked[0] = (struct asked){CUT, {a, b}, {s->site}}; return 1;
+    case AS_TRIPLES: asked[0] = (struct asked){FROM_TRIPLES, {a}, {0}}; return 1;
+    case AS_SAID: asked[0] = (struct asked){TO_TRIPLES, {a}, {draw(UINT32_MAX)}}; return 1;
     default: asked[0] = (struct asked){s->files == INPUTS ? SECOND_REPLY_GROUPED : SECOND_REPLY, {a, b, c, input(3)}, {0}}; return 1;
     }
 }
@@ -296,7 +301,8 @@ static uint64_t compare_call(const struct sample *s, const struct asked *asked)
         disagree(s, result, due);
     for (int k = 0; k < FILES; k++) {
         struct span file = result_of(k);
-        struct verdict v = check_file(file, result_kinds[asked->call]);
+        unsigned kind = result_kinds[asked->call];
+        struct verdict v = kind == 0 ? check_triples(file) : check_file(file, kind);
         if (file.len > 0 && v.number != 0)
             disagree(s, result, v.number);
     }

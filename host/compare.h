@@ -6,10 +6,12 @@
 #include <stddef.h>
 #include <stdint.h>
 
-enum { MOST = 8200, MOST_FILES = 10 };
+enum { MOST = 12300, MOST_FILES = 10 };
 
 /* What a sample is given as. */
-enum subject { AS_PART, AS_WHOLE, AS_PATH, AS_CALLS, AS_FIRSTS, AS_SECONDS, AS_PATHS, AS_DESKS, AS_CUT, AS_GROUPS, AS_ASKED, SUBJECTS };
+enum subject {
+    AS_PART, AS_WHOLE, AS_PATH, AS_CALLS, AS_FIRSTS, AS_SECONDS, AS_PATHS, AS_DESKS, AS_CUT, AS_GROUPS, AS_ASKED, AS_TRIPLES, AS_SAID, SUBJECTS
+};
 
 /* The inspector's options for them. */
 extern const char *const options[SUBJECTS];
@@ -30,7 +32,7 @@ struct sample {
     int cut_file;
 };
 
-/* Whether a file has no header: a cut list, or groups. */
+/* Whether a file has no header: a cut list, groups, or triples. */
 bool headless(const struct sample *s, int k);
 
 /* Appends an or of so many labels. Once `most` wait an or stands behind each label; the other ors come at the end. */

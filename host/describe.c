@@ -15,6 +15,7 @@ struct place {
     const struct calls *calls;  /* of a bundle of first replies, or NULL */
     const struct nodes *reached;    /* of a part, or NULL */
     unsigned labels;        /* label words of the file so far */
+    struct span triples;    /* the file, if it is a triple file */
 };
 
 typedef void line_printer(uint32_t w, size_t i, struct place *place);
@@ -100,6 +101,18 @@ static void print_group(uint32_t w, size_t i, struct place *place)
         printf("%u to %u\n", low_of(w), high_of(w));
 }
 
+/* A word of a triple file: the root, or a field of a triple. */
+static void print_field(uint32_t w, size_t i, struct place *place)
+{
+    static const char *const names[] = {"target", "source", "label"};
+    bool ends = i > 0 && i % 3 == 0;
+    size_t first = ends ? first_equal(place->triples, i / 3 - 1) : 0;
+    printf("%5zu  %08x  %-12s %" PRIu32, i, (unsigned)w, i == 0 ? "root" : names[i % 3], w);
+    if (ends && first < i / 3 - 1)
+        printf(", again: as words %zu to %zu", 3 * first + 1, 3 * first + 3);
+    printf("\n");
+}
+
 static void print_mark(struct verdict v, size_t i)
 {
     if (v.number != 0 && v.at == i)
@@ -115,7 +128,7 @@ static void collect_stopped(struct nodes *set, struct span part)
 
 static void print_lines(struct span s, struct verdict v, line_printer *print_line, struct place *place)
 {
-    size_t shown = words_of(s) < MOWQACHI_BUNDLE_WORDS ? words_of(s) : MOWQACHI_BUNDLE_WORDS;
+    size_t shown = words_of(s) < MOWQACHI_TRIPLE_WORDS ? words_of(s) : MOWQACHI_TRIPLE_WORDS;
     for (size_t i = 0; i < shown; i++) {
         print_line(word_at(s, i), i, place);
         print_mark(v, i);
@@ -139,6 +152,11 @@ void print_words(struct span s, struct verdict v, const struct beside *beside)
 void print_groups(struct span s, struct verdict v)
 {
     print_lines(s, v, print_group, NULL);
+}
+
+void print_triples(struct span s, struct verdict v)
+{
+    print_lines(s, v, print_field, &(struct place){.triples = s});
 }
 
 void print_verdict(struct verdict v, const char *unit, size_t count)
@@ -392,6 +410,27 @@ void print_strays(struct span bundle, const struct calls *calls)
         print_stray(bundle, calls, stray);
     else if (strays > 0)
         printf("reach words to no door %zu, in rows that nobody follows\n", strays);
+}
+
+/* A whole has at least two words, the header and the root. */
+void print_edition(struct span triples)
+{
+    struct edition edition = edition_of(triples);
+    size_t words = whole_words(&edition);
+    printf("nodes %zu, triples %zu, repeats %zu: a whole of %zu words", edition.nodes, edition.triples, edition.repeats, words);
+    if (words > MOWQACHI_PART_WORDS)
+        printf(", over %d", MOWQACHI_PART_WORDS);
+    printf("\n");
+}
+
+void print_said(struct span whole)
+{
+    struct tally tally = tally_of(whole);
+    unsigned site = site_of(word_at(whole, 0));
+    size_t words = 1 + 3 * tally.edges;
+    printf("triples %zu: a triple file of %zu word%s\n", tally.edges, words, words == 1 ? "" : "s");
+    if (site != 0 || tally.doors > 1)
+        printf("not said: site %u, doors other than the root %zu\n", site, tally.doors - 1);
 }
 
 static void print_outside(struct span part)

@@ -17,8 +17,9 @@ struct beside {
    stopped in the part beside it say so, reach words to no door of the bundle, and nodes that are not reached. Bytes behind the last word are
    numbered as bytes. */
 void print_words(struct span s, struct verdict v, const struct beside *beside);
-/* The words of groups in the same way. */
+/* The words of groups in the same way; and those of a triple file, with the words of the first equal triple behind one that stands there again. */
 void print_groups(struct span s, struct verdict v);
+void print_triples(struct span s, struct verdict v);
 /* The last line of a report on so many words or bytes. */
 void print_verdict(struct verdict v, const char *unit, size_t count);
 /* Where a file of a bundle of paths, or of a reply for several desks, stands; its name and its place, counted from 1. */
@@ -40,6 +41,10 @@ void print_apart(struct span first, struct span second);
 void print_generated(struct span whole, uint32_t state);
 /* The words by which a bundle calls a node that is no door, the fewest; where it calls none, how many reach words name one. */
 void print_strays(struct span bundle, const struct calls *calls);
+/* What a triple file has whose words are in their fields, and how many words its whole has. */
+void print_edition(struct span triples);
+/* How many triples say an accepted whole, and what of it they do not. */
+void print_said(struct span whole);
 /* An accepted part as a Graphviz picture. */
 void print_picture(struct span part);
 

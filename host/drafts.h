@@ -5,10 +5,10 @@
 #include "mowqachi.h"
 #include "words.h"
 
-/* There is room for a bundle, and for some words more than it may have. */
+/* There is room for the longest file, a triple file, and for some words more than it may have. */
 struct draft {
     size_t len;
-    uint8_t bytes[4 * (MOWQACHI_BUNDLE_WORDS + 8)];
+    uint8_t bytes[4 * (MOWQACHI_TRIPLE_WORDS + 8)];
 };
 
 /* The same numbers in every run. */

@@ -150,7 +150,7 @@ static uint32_t site_at(const struct plan *p, enum call trip, uint32_t k)
 
 static uint32_t timed(const struct asked *asked, struct draft *out)
 {
-    struct buffers b = {.out = {out->bytes}, .work = work, .room = room_for(asked->call), .state = &state};
+    struct buffers b = {.out = {out->bytes}, .work = work, .room = room_for(asked->call), .word = &state};
     uint64_t start = now();
     uint32_t number = invoke(asked, &b);
     add_time(&times[asked->call], start);

@@ -44,9 +44,9 @@ static uint32_t number_due(const struct counts *c, const struct room *room)
 static uint32_t check_bytes(const struct counts *c, struct room room)
 {
     struct asked asked = {GENERATE, {{NULL, 0}}, {c->state, c->nodes, c->edges}};
-    struct due due = {.result = number_due(c, &room), .state = c->state};
+    struct due due = {.result = number_due(c, &room), .word = c->state};
     if (due.result == 0) {
-        write_generated(&plant, &due.state, c->nodes, c->edges);
+        write_generated(&plant, &due.word, c->nodes, c->edges);
         due.files[0] = span_of(&plant);
     }
     const char *wrong = check_among(&asked, room, &due);
@@ -181,7 +181,7 @@ static void check_row(uint32_t state, long count)
             write_generated(&plant, &ours, c.nodes, c.edges);
             must_be("a plant in a row", plant, written);
         }
-        state = state_left();
+        state = word_left();
         if (state != ours || number != (refuses(&c) ? MOWQACHI_CUT : 0))
             fail_at(&c, "another state or number in a row");
     }

@@ -1,5 +1,5 @@
-/* The inspector: a file of document 01, or document 02's groups, bundle of paths or one reply for several desks, word by word, and the first check
-   that fails. Its exit code is the refusal's number, 0 where all is accepted, and 64 where there is nothing to inspect. */
+/* The inspector: a file of document 01, or document 02's groups, bundle of paths, one reply for several desks or triple file, word by word, and the
+   first check that fails. Its exit code is the refusal's number, 0 where all is accepted, and 64 where there is nothing to inspect. */
 #include <ctype.h>
 #include <errno.h>
 #include <stdio.h>
@@ -27,6 +27,8 @@ static const char usage[] =
     "       inspect [--hex] --longest PART PATH    how long a first reply can be, by doors, outside targets and labels\n"
     "       inspect [--hex] --shared PART [PART]   of which nodes replies may tell; whether they may tell two parts apart\n"
     "       inspect [--hex] --generated STATE FILE whether the generator writes this whole from that state, decimal or 0x..\n"
+    "       inspect [--hex] --triples FILE         a triple file of the first release, with its repeats, and how long its whole is\n"
+    "       inspect [--hex] --said WHOLE           a whole, and whether triples can say it\n"
     "       inspect [--hex] --dot FILE             a part as a Graphviz picture\n"
     "AS tells what the file should be; without it the header tells:\n"
     "       --part --whole --path --calls --list   one file\n"
@@ -439,6 +441,27 @@ static unsigned as_generated(const struct span *in)
     return 0;
 }
 
+/* A triple file. What it has can be told once all its words are in their fields. */
+static unsigned as_triples(const struct span *in)
+{
+    struct verdict v = check_triples(in[0]);
+    print_triples(in[0], v);
+    if (v.number == 0 || v.number == MOWQACHI_RESULT)
+        print_edition(in[0]);
+    print_verdict(v, "word", words_of(in[0]));
+    return v.number;
+}
+
+static unsigned as_said(const struct span *in)
+{
+    struct verdict v = check_said(in[0]);
+    print_words(in[0], v, &(struct beside){.groups = mowqachi_our_groups});
+    if (v.number == 0)
+        print_said(in[0]);
+    print_verdict(v, "word", words_of(in[0]));
+    return v.number;
+}
+
 /* What an option asks for, and how many files it takes, a state or numbers being one of them; those that are not given are NULL. */
 static const struct mode {
     const char *option;
@@ -449,7 +472,7 @@ static const struct mode {
     {"--firsts", 1, 1, as_firsts}, {"--seconds", 1, 1, as_seconds}, {"--files", 1, 1, as_files}, {"--dot", 1, 1, as_picture},
     {"--cut", 2, 2, as_cut}, {"--groups", 1, 2, as_groups}, {"--paths", 1, 2, as_paths}, {"--desks", 1, 2, as_desks},
     {"--served", 2, 2, as_served}, {"--asked", 3, MOST_FILES, as_asked}, {"--longest", 2, 2, as_longest}, {"--shared", 1, 2, as_shared},
-    {"--generated", 2, 2, as_generated},
+    {"--generated", 2, 2, as_generated}, {"--triples", 1, 1, as_triples}, {"--said", 1, 1, as_said},
 };
 
 static struct mode mode_of(const char *option)

@@ -12,7 +12,7 @@
 #include "drafts.h"
 
 /* No call may need as many bytes: docs/CALLS.md says so. */
-enum { STACK = 65536, GUARD = 4096, PAINT = 0xc3, RED_ZONE = 128, BOUND = 1536, MOST_JOBS = 64 };
+enum { STACK = 65536, GUARD = 4096, PAINT = 0xc3, RED_ZONE = 128, BOUND = 1536, MOST_JOBS = 80 };
 
 /* A call to be made on the small stack, and what came of it. */
 struct job {
@@ -20,7 +20,7 @@ struct job {
     uint64_t expected, number;
     size_t depth;
     uint8_t *low;       /* of the stack */
-    uint32_t state;     /* that is lent */
+    uint32_t word;      /* of the host's, that the call writes */
     struct buffers buffers;
     pthread_t thread;
 };
@@ -151,6 +151,18 @@ static void fill_words(struct draft *f, uint32_t header, uint32_t first)
     end_file(f, from, header);
 }
 
+/* As many triples as fit: a root's links to so many nodes, in descending order over and over. Their whole has 2 + 2 * others words. */
+static void fill_triples(struct draft *f, uint32_t others)
+{
+    f->len = 0;
+    put(f, 0);
+    for (uint32_t k = 0; k < (MOWQACHI_TRIPLE_WORDS - 1) / 3; k++) {
+        put(f, 0);
+        put(f, 7);
+        put(f, others - k % others);
+    }
+}
+
 /* A call, and where it reads paths also the one with groups. */
 static void add(enum call call, uint64_t expected, struct span a, struct span b, struct span c)
 {
@@ -245,6 +257,25 @@ static void add_bundles(void)
     add(JOIN, 0, span_of(&answers), none, none);
 }
 
+/* Triples whose whole just fits, does not fit, and is small; and back wholes of full size, one of which has stopped nodes. */
+static void add_editions(void)
+{
+    static struct draft full, over, alike, loops, ring, halted;
+    const struct span none = {NULL, 0};
+    fill_triples(&full, MOWQACHI_PART_WORDS / 2 - 1);
+    fill_triples(&over, MOWQACHI_PART_WORDS / 2);
+    fill_triples(&alike, 1);
+    fill_part(&loops, 2, 1365, 0);
+    fill_part(&ring, 1, 2047, 0);
+    fill_part(&halted, 2, 1365, 3);
+    add(FROM_TRIPLES, 0, span_of(&full), none, none);
+    add(FROM_TRIPLES, MOWQACHI_RESULT, span_of(&over), none, none);
+    add(FROM_TRIPLES, 0, span_of(&alike), none, none);
+    add(TO_TRIPLES, 0, span_of(&loops), none, none);
+    add(TO_TRIPLES, 0, span_of(&ring), none, none);
+    add(TO_TRIPLES, MOWQACHI_UNSAID, span_of(&halted), none, none);
+}
+
 /* A call that takes three numbers alone. */
 static void add_counted(enum call call, uint32_t expected, uint32_t first, uint32_t second, uint32_t third)
 {
@@ -290,8 +321,8 @@ static void start(struct job *job)
     for (int k = 0; k < OUTPUTS && job->buffers.room.out[k] > 0; k++)
         job->buffers.out[k] = get(job->buffers.room.out[k]);
     job->buffers.work = get(job->buffers.room.work);
-    job->state = job->asked.values[0];
-    job->buffers.state = &job->state;
+    job->word = job->asked.values[0];
+    job->buffers.word = &job->word;
     if (pthread_attr_init(&attributes) != 0 || pthread_attr_setstack(&attributes, job->low, STACK) != 0 ||
         pthread_create(&job->thread, &attributes, run, job) != 0)
         fail("no thread");
@@ -322,10 +353,10 @@ static void report(void)
     }
 }
 
-/* Whether two runs of a call left the same state and outputs, which are given back. */
+/* Whether two runs of a call left the same word of the host's and the same outputs, which are given back. */
 static bool same_outputs(struct job *a, struct job *b)
 {
-    bool same = a->state == b->state;
+    bool same = a->word == b->word;
     for (int k = 0; k < OUTPUTS && a->buffers.room.out[k] > 0; k++) {
         same = same && memcmp(a->buffers.out[k], b->buffers.out[k], a->buffers.room.out[k]) == 0;
         free(a->buffers.out[k]);
@@ -341,6 +372,7 @@ int main(void)
     add_visits();
     add_bundles();
     add_counts();
+    add_editions();
     for (int k = 0; k < job_count; k++) {
         start(&jobs[k]);
         finish(&jobs[k]);

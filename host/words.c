@@ -147,3 +147,42 @@ size_t longest_reply(const struct tally *part, unsigned n)
     size_t pairs = part->outside * n;
     return 1 + part->doors * (1 + (pairs == 0 ? 0 : (n + 1) * (1 + pairs)));
 }
+
+size_t triples_of(struct span file)
+{
+    return words_of(file) < 1 ? 0 : (words_of(file) - 1) / 3;
+}
+
+struct span triple_at(struct span file, size_t index)
+{
+    return upto(from(file, 1 + 3 * index), 3);
+}
+
+size_t first_equal(struct span file, size_t index)
+{
+    struct span triple = triple_at(file, index);
+    size_t first = 0;
+    while (memcmp(triple_at(file, first).bytes, triple.bytes, triple.len) != 0)
+        first++;
+    return first;
+}
+
+/* Every word but a label is a node. */
+struct edition edition_of(struct span file)
+{
+    struct edition edition = {.triples = triples_of(file)};
+    struct nodes met = {{0}};
+    for (size_t k = 0; k < edition.triples; k++)
+        edition.repeats += first_equal(file, k) < k;
+    for (size_t i = 0; i < words_of(file); i++)
+        if (i % 3 != 2) {
+            edition.nodes += !has_node(&met, word_at(file, i));
+            add_node(&met, word_at(file, i));
+        }
+    return edition;
+}
+
+size_t whole_words(const struct edition *triples)
+{
+    return 1 + triples->nodes + triples->triples - triples->repeats;
+}

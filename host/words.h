@@ -1,4 +1,5 @@
-/* The words and fields of document 01's files, with document 02's labels outside a range (request 1) and its stopped bit (request 7). */
+/* The words and fields of document 01's files, with document 02's labels outside a range (request 1), its stopped bit (request 7) and its triple
+   files (request 8). */
 #ifndef WORDS_H
 #define WORDS_H
 
@@ -75,5 +76,18 @@ struct tally {
 struct tally tally_of(struct span part);
 /* The words of a first reply, at most: of any part with so many doors and outside targets, and any path of n labels. */
 size_t longest_reply(const struct tally *part, unsigned n);
+
+/* A triple file has its root ahead of its triples, which are counted from 0. How many of these are whole; the words of one; and the first that is
+   equal to it, itself where no earlier one is. */
+size_t triples_of(struct span file);
+struct span triple_at(struct span file, size_t index);
+size_t first_equal(struct span file, size_t index);
+/* How many a triple file has whose words are in their fields: triples, those of them that an earlier one is equal to, and nodes. */
+struct edition {
+    size_t triples, repeats, nodes;
+};
+struct edition edition_of(struct span file);
+/* The words of its whole. */
+size_t whole_words(const struct edition *triples);
 
 #endif

@@ -1,27 +1,29 @@
 /* The split link search, for a C11 or C++ host. docs/CALLS.md tells which call belongs where, docs/FORMATS.md what every file, trip and
    number is: document 01, and of document 02 the requests 1, labels outside a range, 2, generated plants, 3, groups of the caller's own, 5, links
-   that nobody walks, 6, four paths in one visit, 7, stopped nodes, 9, eight operands waiting, 11, one reply for eight desks, and 13, the dearest
-   reply.
+   that nobody walks, 6, four paths in one visit, 7, stopped nodes, 8, the triple edition, 9, eight operands waiting, 11, one reply for eight desks,
+   and 13, the dearest reply.
 
    Buffers. A length is in bytes. Any alignment will do. Inputs are only read, and may overlap one another. Outputs and the working buffer overlap
    nothing: neither one another nor an input. A pointer is never null: where a length is 0, pass the address of any object. What outputs and working
    buffer hold before a call does not matter. Longer ones than asked for are fine, of any length. A state that is lent is one aligned word of the
-   host's, which the call reads and writes; it overlaps nothing, and its pointer is never null either. During a call no other thread changes its
-   inputs or touches its other buffers or the state.
+   host's, which the call reads and writes, and so is a count that is handed out, which it only writes; such a word overlaps nothing, and its pointer
+   is never null either. During a call no other thread changes its inputs or touches its other buffers or such a word.
 
    After a call. A call gives one number, for all its outputs; but a visit, a call for several paths, gives four, one for each output
    (mowqachi_number_at), and one for several desks eight, one for each desk (mowqachi_desk_number). At 0 an output begins with its result, a file
    whose first word tells its length (mowqachi_file_bytes), and is zero past it. At any other number it is zero from end to end, and so is at 0 an
    output for which a visit has no path. The one output of several desks begins with the replies of those whose number is 0, one behind another
-   (mowqachi_desk_reply), and is zero past them. The working buffer is zero after every call, to its full length. A lent state has moved on at 0, and
-   is as it was at any other number.
+   (mowqachi_desk_reply), and is zero past them. A triple file has no header: the count that goes with it tells its words. The working buffer is zero
+   after every call, to its full length. A lent state has moved on at 0, and is as it was at any other number. A count is written by every call: at
+   any other number it is 0, whatever it was before.
 
    Order of checks: 1, of any buffer; then the inputs in the order of the parameters; then 15. In one input 2, 3, 4, then word by word 5, 10, 6,
    7, 9, then at its end 5, 7, 8, 9. A cut list has only 11, and so has the site asked, after it. Groups have only 16. Counts of a dearest part and
-   path have only 21, and those of a generated plant only 11; a state has none. In a bundle of replies 2, then file by file as above, then over all
-   files 12, 7, 13, and 14 once it is known which pairs are called, however many. A call list by itself, then 12 against the path and 14 against the
-   part. A bundle of paths has only 17; what comes behind that, the checks of each path and its 15, is this path's alone. Of several desks a 15 may
-   also say that the others left no room. The first check that fails gives the number.
+   path have only 21, and those of a generated plant only 11; a state has none. A triple file has 2, then 18; a whole that is to become one has its
+   own, then 19. In a bundle of replies 2, then file by file as above, then over all files 12, 7, 13, and 14 once it is known which pairs are called,
+   however many. A call list by itself, then 12 against the path and 14 against the part. A bundle of paths has only 17; what comes behind that, the
+   checks of each path and its 15, is this path's alone. Of several desks a 15 may also say that the others left no room. The first check that fails
+   gives the number.
 
    Labels outside a range. A path's label word of sort 2 (bits 27..24) has a range's fields, the high end in 23..12 and the low end in 11..0,
    and holds the labels below the low end and those above the high one: any label but 5 is 0x52005005. The low end is not above the high one.
@@ -50,20 +52,22 @@ extern "C" {
 #endif
 
 /* The words of a file or bundle, at most. A word is four bytes, the lowest first. */
-#define MOWQACHI_PART_WORDS 4096   /* parts and wholes */
+#define MOWQACHI_PART_WORDS 4096    /* parts and wholes */
 #define MOWQACHI_PATH_WORDS 64
-#define MOWQACHI_REPLY_WORDS 4096  /* first and second replies */
-#define MOWQACHI_CALLS_WORDS 4096  /* call lists */
-#define MOWQACHI_BUNDLE_WORDS 8192 /* bundles, of replies or of paths */
-#define MOWQACHI_LIST_WORDS 8192   /* final lists */
+#define MOWQACHI_REPLY_WORDS 4096   /* first and second replies */
+#define MOWQACHI_CALLS_WORDS 4096   /* call lists */
+#define MOWQACHI_BUNDLE_WORDS 8192  /* bundles, of replies or of paths */
+#define MOWQACHI_LIST_WORDS 8192    /* final lists */
+#define MOWQACHI_TRIPLE_WORDS 12286 /* triple files */
 
 /* The bytes of an output, at least. */
-#define MOWQACHI_PART_BYTES 16384  /* mowqachi_cut; the part of mowqachi_dearest; mowqachi_generate */
-#define MOWQACHI_PATH_BYTES 256    /* the path of mowqachi_dearest */
-#define MOWQACHI_REPLY_BYTES 16384 /* mowqachi_first_reply, mowqachi_second_reply, each of four of mowqachi_four_replies, the one of
-                                      mowqachi_eight_replies, and with groups */
-#define MOWQACHI_CALLS_BYTES 16384 /* mowqachi_call_list */
-#define MOWQACHI_LIST_BYTES 32768  /* mowqachi_old_search, and with groups; mowqachi_join */
+#define MOWQACHI_PART_BYTES 16384   /* mowqachi_cut; the part of mowqachi_dearest; mowqachi_generate; mowqachi_from_triples */
+#define MOWQACHI_PATH_BYTES 256     /* the path of mowqachi_dearest */
+#define MOWQACHI_REPLY_BYTES 16384  /* mowqachi_first_reply, mowqachi_second_reply, each of four of mowqachi_four_replies, the one of
+                                       mowqachi_eight_replies, and with groups */
+#define MOWQACHI_CALLS_BYTES 16384  /* mowqachi_call_list */
+#define MOWQACHI_LIST_BYTES 32768   /* mowqachi_old_search, and with groups; mowqachi_join */
+#define MOWQACHI_TRIPLE_BYTES 49144 /* mowqachi_to_triples */
 
 /* The bytes of the working buffer, at least, in every call. */
 #define MOWQACHI_WORK_BYTES 32768
@@ -113,6 +117,8 @@ enum mowqachi_number {
     MOWQACHI_RESULT = 15,  /* result over its limit; of several desks, also a first reply over 512 words for which there is no room */
     MOWQACHI_GROUPS = 16,  /* groups not just eight words, or with a word that is no range or has its low end above its high end */
     MOWQACHI_PATHS = 17,   /* bundle of paths: none, too many, over 8,192 words, or headers' lengths that do not use up its bytes, such as 0 */
+    MOWQACHI_TRIPLES = 18, /* triple file: words not one more than a multiple of three; root, source or target over 65,535; label over 4,095 */
+    MOWQACHI_UNSAID = 19,  /* whole that triples can't say: a stopped node; a node other than the root with no edge of its own and none to it */
     MOWQACHI_COUNTS = 21   /* dearest part and path: a count that is 0, over 15 labels, doors and targets over 65,536, or a part over 4,096 words */
 };
 
@@ -257,6 +263,21 @@ uint32_t mowqachi_dearest(uint32_t doors, uint32_t targets, uint32_t labels,
    Output: MOWQACHI_PART_BYTES. */
 uint32_t mowqachi_generate(uint32_t *state, uint32_t nodes, uint32_t edges,
                            uint8_t *out, size_t out_len, uint8_t *work, size_t work_len);
+
+/* The triple edition, for plants of the first release: the whole of a triple file, which is a root word and then for each link three words, source,
+   label and target, each a full word, in any order and with repeats; it has no header. The whole is of site 0; its nodes are the root and all sources
+   and targets, none stopped, its edges the triples, each once, and the root is the only door. The root may be no end of a triple, and a lone root
+   word is a plant of one node. The same root and the same set of triples give the same whole, whatever the order and the repeats. The old search
+   accepts every such whole, with any path that it accepts. One that would be over 4,096 words gives 15. Output: MOWQACHI_PART_BYTES. */
+uint32_t mowqachi_from_triples(const uint8_t *triples, size_t triples_len, uint8_t *out, size_t out_len, uint8_t *work, size_t work_len);
+
+/* And back: the triple file of a whole. Its root word, then the triples of its edges, ascending by source, label and target. The words written, the
+   root word among them, go to *count: 4 * *count bytes are what mowqachi_from_triples is handed, which gives the same whole again, but for its site,
+   which is 0 then, and its doors, of which the root alone is left. Triples have no way to say a stopped node, nor a node other than the root with no
+   edge of its own and none to it: such a whole gives 19. A node with an edge to itself they can say. 15 is not given: there is room for the edges of
+   any whole. Output: MOWQACHI_TRIPLE_BYTES. */
+uint32_t mowqachi_to_triples(const uint8_t *whole, size_t whole_len, uint8_t *out, size_t out_len, uint32_t *count,
+                             uint8_t *work, size_t work_len);
 
 #ifdef __cplusplus
 }

@@ -3,6 +3,7 @@ mod bundles;
 mod desks;
 mod parts;
 mod paths;
+mod triples;
 mod visits;
 
 use crate::plain::{dear_part, dear_path};
@@ -10,6 +11,7 @@ use crate::words::{bytes, OURS};
 pub use desks::{eight_replies, eight_replies_of_groups};
 use parts::Doors;
 use std::cell::Cell;
+pub use triples::{from_triples, to_triples};
 pub use visits::{four_replies, four_replies_of_groups};
 
 /// What a call is asked: a part, a whole or a bundle, and whatever else the call takes.
@@ -29,10 +31,21 @@ pub struct Ask {
     pub counts: [u32; 3],
     /// Nodes, and edges of each, of the plant that is generated.
     pub plant: [u32; 2],
-    /// The state that is lent for it. Each call goes on from where the one before left it, so that no two draw the same plant.
+    /// The state that is lent for it. Each call goes on from where the one before left it, so that no two draw the same plant. With
+    /// triple files, which of them is the next.
     pub state: Cell<u32>,
-    /// What the call must answer: its number, or its numbers, one to a byte.
+    /// Files of the same triples, of which each call takes the next: of one over and over the processor learns which triple is the lower.
+    pub triples: Vec<Vec<u8>>,
+    /// What the call must answer: its number, or its numbers, one to a byte, and a count above it if it leaves one.
     pub number: u64,
+}
+
+impl Ask {
+    pub fn next_triples(&self) -> &[u8] {
+        let turn = self.state.get() as usize;
+        self.state.set(((turn + 1) % self.triples.len()) as u32);
+        &self.triples[turn]
+    }
 }
 
 pub struct Shape {

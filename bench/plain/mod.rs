@@ -8,12 +8,14 @@ mod eight_replies;
 mod files;
 mod first_reply;
 mod four_replies;
+mod from_triples;
 mod generate;
 mod join;
 mod old_search;
 mod part;
 mod search;
 mod second_reply;
+mod to_triples;
 
 pub use automaton::{path, Automaton};
 pub use bundle::first_bundle;
@@ -24,9 +26,11 @@ pub use eight_replies::{eight_replies, eight_replies_grouped, eight_single_repli
 pub use files::{settle, Outcome};
 pub use first_reply::{door_words, first_reply, first_reply_grouped, LIMIT};
 pub use four_replies::{four_replies, four_replies_grouped, single_replies, single_replies_grouped};
+pub use from_triples::{from_triples, triples_whole, whole_of, Triples};
 pub use generate::generate;
 pub use join::join;
 pub use old_search::{final_list, old_search, old_search_grouped};
 pub use part::{part, whole};
 pub use search::{split, Edge, Graph};
 pub use second_reply::{second_reply, second_reply_by, second_reply_grouped};
+pub use to_triples::to_triples;

@@ -33,12 +33,12 @@ pub struct Visit {
 #[derive(Clone, Debug)]
 pub struct Desks(pub Visit);
 
-/// What a call leaves: its numbers, of which it mostly has one, and what is in the state, if it is lent one, in its outputs, and last in its
-/// working buffer.
+/// What a call leaves: its numbers, of which it mostly has one, and what is in the word that it is lent, if any, for a state or a count, in its
+/// outputs, and last in its working buffer.
 #[derive(PartialEq, Eq, Debug)]
 pub struct Left {
     pub numbers: Vec<u32>,
-    pub state: Option<u32>,
+    pub word: Option<u32>,
     pub buffers: Vec<Vec<u8>>,
 }
 
@@ -51,7 +51,19 @@ impl Left {
             bytes
         };
         let buffers = lengths.iter().enumerate().map(left).collect();
-        Left { numbers: numbers.to_vec(), state: None, buffers }
+        Left { numbers: numbers.to_vec(), word: None, buffers }
+    }
+
+    /// What a call with one result owes.
+    pub fn owed_one(outcome: &Outcome, room: Room) -> Left {
+        let (number, words) = answer(outcome);
+        Left::owed(&[number], &[words], &[room.out, room.work])
+    }
+
+    /// What the call that hands out the count of its result's words owes.
+    pub fn owed_counted(outcome: &Outcome, room: Room) -> Left {
+        let count = outcome.as_ref().map_or(0, |words| words.len() as u32);
+        Left { word: Some(count), ..Left::owed_one(outcome, room) }
     }
 
     /// What the call with two results owes.
@@ -68,7 +80,7 @@ impl Left {
             Ok((words, state)) => (0, words.clone(), *state),
             Err(refusal) => (refusal.number, vec![], source.state),
         };
-        Left { state: Some(state), ..Left::owed(&[number], &[words], &[room.out, room.work]) }
+        Left { word: Some(state), ..Left::owed(&[number], &[words], &[room.out, room.work]) }
     }
 
     /// What a visit owes.
@@ -113,7 +125,22 @@ fn made_in<const N: usize>(
     let kept = given.iter().zip(inputs).all(|(kept, bytes)| kept.inner() == *bytes);
     let guarded = given.iter().chain(&lent).all(Guarded::guards_stand);
     let buffers = lent.iter().map(|buffer| buffer.inner().to_vec()).collect();
-    (Left { numbers, state: None, buffers }, kept && guarded)
+    (Left { numbers, word: None, buffers }, kept && guarded)
+}
+
+/// The same of a call that is lent a word too, which has words of garbage around it.
+fn made_with_word<const N: usize>(
+    random: &mut Random,
+    word: u32,
+    inputs: &[&[u8]],
+    lengths: [usize; N],
+    make: impl FnOnce(&mut u32, &[&[u8]], &mut [Guarded; N]) -> Vec<u32>,
+) -> (Left, bool) {
+    let mut lent = [random.word(), word, random.word()];
+    let [before, _, behind] = lent;
+    let (left, stands) =
+        made_in(random, inputs, lengths, |given, buffers| make(&mut lent[1], given, buffers));
+    (Left { word: Some(lent[1]), ..left }, stands && lent == [before, lent[1], behind])
 }
 
 impl Call {
@@ -245,8 +272,7 @@ impl Call {
     pub fn check(&self, random: &mut Random, room: Room) -> Outcome {
         let outcome = self.evaluate(room);
         let left = self.leaves(random, room);
-        let (number, words) = answer(&outcome);
-        let right = left == Left::owed(&[number], &[words], &[room.out, room.work]);
+        let right = left == Left::owed_one(&outcome, room);
         assert!(right, "{}, the evaluation {outcome:x?}", self.told(room, &left));
         outcome
     }
@@ -410,21 +436,52 @@ pub fn check_dearest(random: &mut Random, counts: Counts, rooms: Rooms) -> BothF
     outcome
 }
 
-/// Makes the call that draws a plant, with words of garbage around the state, and holds it to the evaluation's outcome, which is handed
-/// back. Panics where they differ.
+/// Makes the call that draws a plant and holds it to the evaluation's outcome, which is handed back. Panics where they differ.
 pub fn check_generate(random: &mut Random, source: &Source, room: Room) -> Generated {
-    let (before, behind) = (random.word(), random.word());
-    let mut lent = [before, source.state, behind];
-    let (left, stands) = made_in(random, &[], [room.out, room.work], |_, [out, work]| {
-        vec![calls::generate(&mut lent[1], source.nodes, source.edges, out.inner_mut(), work.inner_mut())]
+    let lengths = [room.out, room.work];
+    let (left, stands) = made_with_word(random, source.state, &[], lengths, |state, _, [out, work]| {
+        vec![calls::generate(state, source.nodes, source.edges, out.inner_mut(), work.inner_mut())]
     });
-    let left = Left { state: Some(lent[1]), ..left };
     let outcome = evaluation::generate(source, room);
     assert!(
-        stands && lent == [before, lent[1], behind] && left == Left::owed_drawn(&outcome, source, room),
-        "generate {source:x?}, {room:?}: the library gives {}, state {:x} and {}, the evaluation {outcome:x?}",
+        stands && left == Left::owed_drawn(&outcome, source, room),
+        "generate {source:x?}, {room:?}: the library gives {}, state {:x?} and {}, the evaluation {outcome:x?}",
         left.number(),
-        lent[1],
+        left.word,
+        left.told(0),
+    );
+    outcome
+}
+
+/// Makes the call for a whole from triples and holds it to the evaluation's outcome, which is handed back. Panics where they differ.
+pub fn check_from_triples(random: &mut Random, triples: &[u8], room: Room) -> Outcome {
+    let (left, stands) = made_in(random, &[triples], [room.out, room.work], |given, [out, work]| {
+        vec![calls::from_triples(given[0], out.inner_mut(), work.inner_mut())]
+    });
+    let outcome = evaluation::from_triples(triples, room);
+    assert!(
+        stands && left == Left::owed_one(&outcome, room),
+        "from triples, {room:?}, input:\n{}\nthe library gives {} and {}, the evaluation {outcome:x?}",
+        hex(triples),
+        left.number(),
+        left.told(0),
+    );
+    outcome
+}
+
+/// The same of the call for triples from a whole, with garbage in the word for the count.
+pub fn check_to_triples(random: &mut Random, whole: &[u8], room: Room) -> Outcome {
+    let (garbage, lengths) = (random.word(), [room.out, room.work]);
+    let (left, stands) = made_with_word(random, garbage, &[whole], lengths, |count, given, [out, work]| {
+        vec![calls::to_triples(given[0], out.inner_mut(), count, work.inner_mut())]
+    });
+    let outcome = evaluation::to_triples(whole, room);
+    assert!(
+        stands && left == Left::owed_counted(&outcome, room),
+        "to triples, {room:?}, input:\n{}\nthe library gives {}, count {:?} and {}, the evaluation {outcome:x?}",
+        hex(whole),
+        left.number(),
+        left.word,
         left.told(0),
     );
     outcome

@@ -1,4 +1,4 @@
-//! The fifteen calls of the library, on slices. Each returns its number, or its numbers in one word or two.
+//! The seventeen calls of the library, on slices. Each returns its number, or its numbers in one word or two.
 
 /// What a call returns: a word, or what it says.
 macro_rules! returned {
@@ -11,11 +11,11 @@ macro_rules! returned {
 }
 
 /// Declares calls under their C names, and makes of each a function on slices: the state that it is lent, inputs and numbers that it takes,
-/// if any, outputs and working buffer.
+/// if any, outputs, the word for a count that it hands out, if it does, and working buffer.
 macro_rules! calls {
     ($($name:ident = $symbol:ident(
         $(&$state:ident)? $($input:ident),* $(; $($number:ident),+)?
-    ) -> $($out:ident),+ $(as $wide:ty)?;)+) => {
+    ) -> $($out:ident),+ $(&$count:ident)? $(as $wide:ty)?;)+) => {
         mod library {
             extern "C" {
                 $(pub fn $symbol(
@@ -23,6 +23,7 @@ macro_rules! calls {
                     $($input: *const u8, _: usize,)*
                     $($($number: u32,)+)?
                     $($out: *mut u8, _: usize,)+
+                    $($count: *mut u32,)?
                     work: *mut u8, _: usize,
                 ) -> returned!($($wide)?);)+
             }
@@ -33,6 +34,7 @@ macro_rules! calls {
             $($input: &[u8],)*
             $($($number: u32,)+)?
             $($out: &mut [u8],)+
+            $($count: &mut u32,)?
             work: &mut [u8],
         ) -> returned!($($wide)?) {
             // The pointers and lengths come from references, so they are valid, and the mutable ones are disjoint from all others.
@@ -42,6 +44,7 @@ macro_rules! calls {
                     $($input.as_ptr(), $input.len(),)*
                     $($($number,)+)?
                     $($out.as_mut_ptr(), $out.len(),)+
+                    $($count,)?
                     work.as_mut_ptr(), work.len(),
                 )
             }
@@ -65,4 +68,6 @@ calls! {
     join = mowqachi_join(bundle) -> out;
     dearest = mowqachi_dearest(; doors, targets, labels) -> part, path;
     generate = mowqachi_generate(&state; nodes, edges) -> out;
+    from_triples = mowqachi_from_triples(triples) -> out;
+    to_triples = mowqachi_to_triples(whole) -> out &count;
 }

@@ -6,7 +6,9 @@ pub mod generator;
 pub mod growth;
 pub mod learning;
 mod leaving;
+mod lists;
 mod paths;
+pub mod triples;
 pub mod visit;
 
 use self::leaving::*;

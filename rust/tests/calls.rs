@@ -1,12 +1,13 @@
 //! Random and damaged inputs for every call, by the library and by the evaluation; every check of the documents must have refused some, and
 //! every mistake in reading stopped nodes and labels outside a range, in counting operands, in loading groups, about nodes that are no doors,
-//! about several paths in one visit, about one reply for eight askers, about the dearest files and about plants that are drawn must have been
-//! found out by some.
+//! about several paths in one visit, about one reply for eight askers, about the dearest files, about plants that are drawn and about the
+//! triple edition must have been found out by some.
 
-use mowqachi_tests::beside::{check_dearest, check_generate};
+use mowqachi_tests::beside::{check_dearest, check_from_triples, check_generate, check_to_triples};
 use mowqachi_tests::evaluation::dearest::LEAST_ROOMS;
 use mowqachi_tests::evaluation::desks;
 use mowqachi_tests::evaluation::generator::LEAST_ROOM;
+use mowqachi_tests::evaluation::triples::{LEAST_FROM, LEAST_TO};
 use mowqachi_tests::evaluation::visit;
 use mowqachi_tests::evaluation::words::Refusal;
 use mowqachi_tests::evaluation::Visited;
@@ -15,10 +16,12 @@ use mowqachi_tests::generate::calls::{call, room, room_from, rooms};
 use mowqachi_tests::generate::counts::counts;
 use mowqachi_tests::generate::desks::desks;
 use mowqachi_tests::generate::sources::source;
+use mowqachi_tests::generate::triples::{triple_file, whole_file};
 use mowqachi_tests::generate::visits;
 use mowqachi_tests::meeting::meet;
 use mowqachi_tests::mistakes::desks::in_desks;
 use mowqachi_tests::mistakes::generator::in_drawn_plants;
+use mowqachi_tests::mistakes::triples::*;
 use mowqachi_tests::mistakes::visit::in_visits;
 use mowqachi_tests::mistakes::*;
 use mowqachi_tests::random::{cases, Random};
@@ -117,6 +120,14 @@ const NUMBERS: Checks = &[
     (21, "part over its limit"),
 ];
 const SIZES: Checks = &[(11, "no nodes"), (11, "over 256 nodes"), (11, "no edges"), (11, "over 4 edges")];
+const TRIPLES: Checks = &[
+    (18, "not a root and threes"),
+    (18, "root too large"),
+    (18, "source too large"),
+    (18, "label too large"),
+    (18, "target too large"),
+];
+const UNSAID: Checks = &[(19, "stopped node"), (19, "node without links")];
 const RESULT: Checks = &[(15, "over its limit")];
 const BESIDE: Checks = &[(15, "without room")];
 
@@ -156,6 +167,11 @@ fn mistakes(inputs: Inputs) -> Vec<&'static str> {
     let in_bundles = names(&STRAYS, |_| has(&["first bundle"]));
     let in_files = if has(&["counts"]) { in_dearest_files() } else { vec![] };
     let in_plants = if has(&["nodes and edges"]) { in_drawn_plants() } else { vec![] };
+    let in_editions = match (has(&["triples"]), has(&["whole for triples"])) {
+        (true, _) => in_triples(),
+        (_, true) => in_wholes(),
+        _ => vec![],
+    };
     let in_bundles_of_paths = match (has(&["paths"]), has(&["buffers"])) {
         (true, true) => in_desks(groups),
         (true, false) => in_visits(groups),
@@ -163,7 +179,8 @@ fn mistakes(inputs: Inputs) -> Vec<&'static str> {
     };
     let in_words = [names(&STOPPED, |_| nodes), names(&OUTSIDE, |_| path), names(&WAITING, |_| path)];
     let in_groups = [names(&GROUPS, |_| groups), names(&LOADED, |_| groups), names(&PLACES, |_| groups)];
-    [&in_words[..], &in_groups, &[in_bundles, in_files, in_plants, in_bundles_of_paths]].concat().concat()
+    let in_others = [in_bundles, in_files, in_plants, in_editions, in_bundles_of_paths];
+    [&in_words[..], &in_groups, &in_others].concat().concat()
 }
 
 fn named(refusal: Option<&Refusal>) -> String {
@@ -308,5 +325,25 @@ fn generate() {
         let (source, room) = (source(random), room_from(random, LEAST_ROOM));
         let outcome = check_generate(random, &source, room);
         (found_out_by_source(&source, room, &outcome), vec![outcome.err()])
+    });
+}
+
+#[test]
+fn from_triples() {
+    let inputs: Inputs = &[("buffers", &[ROOM]), ("triples", &[SIZE, TRIPLES]), ("result", &[RESULT])];
+    share("from triples", inputs, |random| {
+        let (triples, room) = (triple_file(random), room_from(random, LEAST_FROM));
+        let outcome = check_from_triples(random, &triples, room);
+        (found_out_by_triples(&triples, room), vec![outcome.err()])
+    });
+}
+
+#[test]
+fn to_triples() {
+    let inputs: Inputs = &[("buffers", &[ROOM]), ("whole for triples", &[IN_WHOLE, &[UNSAID]].concat())];
+    share("to triples", inputs, |random| {
+        let (whole, room) = (whole_file(random), room_from(random, LEAST_TO));
+        let outcome = check_to_triples(random, &whole, room);
+        (found_out_by_whole(&whole, room), vec![outcome.err()])
     });
 }

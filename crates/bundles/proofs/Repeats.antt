@@ -15,6 +15,7 @@ use Rattle.bundles.specs.Stretch.{clashing}
 use Rattle.sets.specs.Sets.{any, filter, member}
 use Rattle.sets.specs.States.{hasState}
 use Rattle.sets.specs.NodeSet.{hasNode, Added, nodeSetBytes}
+use Rattle.sets.proofs.Cases.{or-swap}
 use Rattle.sets.proofs.Tests.{either, same-test, eq-iff}
 use Rattle.sets.proofs.StateSets.{has-empty}
 use Rattle.sets.proofs.NodeSets.{nodes-none}
@@ -41,12 +42,6 @@ stale-same f g (x ∷ xs) h = rw (h x, stale-same (λ y. f y || eqb y x) (λ y. 
 
 eqb-swap : (x y : ℕ) → eqb x y ≡ eqb y x
 eqb-swap x y = same-test (λ t. eq-iff y x .1 (sym (eq-iff x y .0 t))) (λ t. eq-iff x y .1 (sym (eq-iff y x .0 t)))
-
-or-swap : (a b c d : Bool) → ((a || b) || (c || d)) ≡ ((a || c) || (b || d))
-or-swap true b c d = refl
-or-swap false true true d = refl
-or-swap false true false d = refl
-or-swap false false c d = refl
 
 or-turn : (a b c d : Bool) → (a || ((b || c) || d)) ≡ ((a || b) || (c || d))
 or-turn true b c d = refl

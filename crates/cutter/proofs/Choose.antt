@@ -7,19 +7,15 @@ use Prim.Native.Nat.{ℕ, _≤_}
 use native.Mathlib.Omega.{arith}
 use lib.Dec.{T}
 use lib.ListN.{length}
-use borrow.Author.Tests.{eqb-true, ne-eqb}
 use Rattle.sets.specs.Sets.{Mem, there, _⊆_, filter}
 use Rattle.sets.proofs.Sets.{subset-cons, filter-iff}
 use Rattle.sets.proofs.Tests.{either}
 use Rattle.sets.proofs.Filter.{map-iff}
-use Rattle.files.specs.Field.{kindOf}
 use Rattle.files.specs.Part.{isNode, isEdge, front}
 use Rattle.files.proofs.Blocks.{Block, blocks}
+use Rattle.files.proofs.Parts.{node-not-edge}
 use Rattle.cutter.specs.Cut.{choose}
 use Rattle.cutter.proofs.Sited.{Fit, sited}
-
-pub node-not-edge : (w : ℕ) → isNode w ≡ true → isEdge w ≡ false
-node-not-edge w n = ne-eqb (kindOf w) 3 (λ q. omega (arith, eqb-true (kindOf w) 2 n))
 
 module _ (test : ℕ → Bool) where
   -- the choice by its steps: what it makes of words and cut list where the words so far end in a chosen node's or not

@@ -2,7 +2,7 @@
 use mathlib.Core.Path.{_≡_, subst}
 use mathlib.Core.Logic.{_↔_, inl, inr}
 use mathlib.Core.Bool.{false}
-use mathlib.Core.List.{List, [], _∷_, map, Memᴰ·of-map}
+use mathlib.Core.List.{List, map, Memᴰ·of-map}
 use Prim.Native.Nat.{ℕ, suc, _^_, _≤_, _<_}
 use native.Mathlib.Omega.{arith}
 use lib.Dec.{eqb, eqb-refl, eqb→eq}
@@ -10,6 +10,7 @@ use lib.ListN.{length, drop, getD, length-map}
 use Rattle.sets.specs.Sets.{Mem, here, there}
 use Rattle.sets.proofs.Tests.{either}
 use Rattle.sets.proofs.Filter.{map-iff}
+use Rattle.sets.proofs.Lengths.{mem-drop}
 use Rattle.files.specs.Field.{siteOf}
 use Rattle.files.specs.Part.{isNode, partCheck}
 use Rattle.files.proofs.Checks.{checks}
@@ -20,10 +21,6 @@ use Rattle.cutter.specs.Cut.{remarked, elsewhere, mine, cut}
 use Rattle.cutter.proofs.Sited.{Fit, sited}
 use Rattle.cutter.proofs.Choose.{Choice, choice, chosen-iff, choice-subset, choice-length}
 use Rattle.cutter.proofs.Remark.{remark, remarked-node, remarked-blocks, scan-chosen}
-
-mem-drop : {w : ℕ} (f : List ℕ) → Mem w (drop 1 f) → Mem w f
-mem-drop [] m = m
-mem-drop (x ∷ f) m = there m
 
 module _ (f cuts : List ℕ) (p : partCheck f ≡ 0) (c : Fit (drop 1 f) cuts) (s : ℕ) (h : s < 16) where
   abbrev body : List ℕ

@@ -1,5 +1,5 @@
 -- Demand 1, for all bytes and all buffers. A call's checks give only its numbers (Numbers); and what the old search, the cutter, a second reply and
--- joining owe is within its limit wherever the checks pass, so that 15 is none of theirs; so are the two files of the planners' call and that of the load bench. Assumes nothing.
+-- joining owe is within its limit wherever the checks pass, so that 15 is none of theirs; so are the two files of the planners' call, that of the load bench and the triples of a whole. Assumes nothing.
 use mathlib.Core.Path.{_≡_, refl, sym, _∙_, ap}
 use mathlib.Core.Logic.{_⊎_, inl, inr}
 use mathlib.Core.Bool.{Bool, not, _&&_}
@@ -19,7 +19,7 @@ use Rattle.files.specs.Word.{words, bytesOf}
 use Rattle.files.specs.Field.{sizeOf}
 use Rattle.files.specs.Refuse.{_then_, roomCheck, sizeCheck}
 use Rattle.files.specs.Outcome.{Outcome, refused, accepted, outcome, zeros, padded, Left, leaves, leavesLent}
-use Rattle.files.specs.Limits.{partWords}
+use Rattle.files.specs.Limits.{partWords, tripleWords}
 use Rattle.files.specs.Part.{partCheck, wholeCheck}
 use Rattle.files.specs.Path.{pathCheck}
 use Rattle.files.specs.Groups.{groupsCheck, loaded, ourGroups}
@@ -27,7 +27,7 @@ use Rattle.files.proofs.Checks.{checks, then-iff, outcome-gives, outcome-over}
 use Rattle.files.proofs.Words.{words-length}
 use Rattle.files.proofs.Parts.{whole-part}
 use Rattle.files.proofs.Numbers.{Among, among, among-more, among-then, among-first, size-numbers, part-numbers, whole-numbers, cuts-numbers, path-numbers, path-sized, groups-numbers, calls-numbers, firsts-numbers, seconds-numbers}
-use Rattle.output.specs.Frame.{input, also, InputRead, Passed}
+use Rattle.output.specs.Frame.{input, also, Checked, InputRead, Passed}
 use Rattle.output.proofs.Frame.{passed}
 use Rattle.old.specs.Old.{listed, oldSearchCall, oldSearchGroupedCall}
 use Rattle.old.proofs.OldSearch.{listed-length}
@@ -67,9 +67,14 @@ use Rattle.draws.specs.Draws.{drawn}
 use Rattle.generator.specs.Generate.{generated, spent, boundsCheck, generateCall}
 use Rattle.generator.proofs.Answering.{within}
 use Rattle.generator.proofs.Wholes.{generated-fits}
+use Rattle.triples.specs.Triple.{triplesCheck, toTriples, sayCheck}
+use Rattle.triples.proofs.From.{from-is}
+use Rattle.from_triples.specs.From.{fromCall}
+use Rattle.to_triples.specs.To.{toCall}
+use Rattle.to_triples.proofs.Answering as to
 use Rattle.demands.specs.PlantOf.{plantOf}
 use Rattle.demands.specs.Grouped.{own}
-use Rattle.demand_1.specs.Demand1.{Settles, SettlesBoth, SettlesLent, SettlesEach, OwedAt, SettlesShared, dearestNumbers, generateNumbers, visitNumbers, visitPathNumbers, grouped, rows, Demand1}
+use Rattle.demand_1.specs.Demand1.{Settles, SettlesBoth, SettlesLent, SettlesEach, OwedAt, SettlesShared, dearestNumbers, generateNumbers, toTriplesNumbers, visitNumbers, visitPathNumbers, grouped, rows, Demand1}
 use Rattle.demands.proofs.PlantOf.{plant-holds}
 use Rattle.demands.proofs.OldSearch.{old-final}
 use Rattle.demands.proofs.Grouping.{asks-checked, final-asked}
@@ -81,14 +86,22 @@ against-numbers part path calls = search among
 stray-numbers : (ws : List ℕ) → Among (14 ∷ []) (strayCheck ws)
 stray-numbers ws = search among
 
--- A call whose checks give c. It settles if these are its numbers, and if, where all pass, there is room and the result is what it owes and within its
--- limit, or 15 is one of the numbers.
+-- of a triple file, and of what triples can't say
+triples-numbers : (ws : List ℕ) → Among (18 ∷ []) (triplesCheck ws)
+triples-numbers ws = search among
+
+say-numbers : (ws : List ℕ) → Among (19 ∷ []) (sayCheck ws)
+say-numbers ws = search among
+
+-- A call whose checks give c. It settles if these are its numbers, and if, where all pass, there is room and the result is within its limit, or 15 is
+-- one of the numbers, and is what the call owes if it is within.
 settles-by {ℓ} : (ks : List ℕ) (limit n m : ℕ) (c : ℕ) (Owed : List ℕ → Type ℓ) (result : List ℕ) → Among ks c
-    → (c ≡ 0 → (4 * limit ≤ n) × Owed result × ((length result ≤ limit) ⊎ T (member 15 ks))) → Settles ks limit Owed (outcome c limit result) n m
+    → (c ≡ 0 → (4 * limit ≤ n) × (length result ≤ limit → Owed result) × ((length result ≤ limit) ⊎ T (member 15 ks))) → Settles ks limit Owed (outcome c limit result) n m
 settles-by ks limit n m c Owed result a h = go c refl a
   where
-    result-or-15 : Dec (length result ≤ limit) → 4 * limit ≤ n → Owed result → (length result ≤ limit) ⊎ T (member 15 ks) → Settles ks limit Owed (outcome 0 limit result) n m
-    result-or-15 (yes l) p w r = inr (result, w, l, p, ap (λ o. leaves o n m) (outcome-gives limit result l))
+    result-or-15 : Dec (length result ≤ limit) → 4 * limit ≤ n → (length result ≤ limit → Owed result) → (length result ≤ limit) ⊎ T (member 15 ks)
+        → Settles ks limit Owed (outcome 0 limit result) n m
+    result-or-15 (yes l) p w r = inr (result, w l, l, p, ap (λ o. leaves o n m) (outcome-gives limit result l))
     result-or-15 (no l) p w (inl k) = absurd (l k)
     result-or-15 (no l) p w (inr k) = inl (15, member-iff 15 ks .0 k, ap (λ o. leaves o n m) (outcome-over limit result (omega arith)))
 
@@ -98,14 +111,21 @@ settles-by ks limit n m c Owed result a h = go c refl a
     go (suc k) e (inr i) = inl (suc k, i, refl)
 
 -- so where the checks are those of the buffers, of the size of the first input s, and then c
-settles {ℓ} : (ks : List ℕ) (limit most n m : ℕ) (s : List ℕ) (c : ℕ) (Owed : List ℕ → Type ℓ) (result : List ℕ) → T (member 1 ks) → T (member 2 ks) → Among ks c
-    → (InputRead most s c → Owed result × ((length result ≤ limit) ⊎ T (member 15 ks)))
+settles-within {ℓ} : (ks : List ℕ) (limit most n m : ℕ) (s : List ℕ) (c : ℕ) (Owed : List ℕ → Type ℓ) (result : List ℕ) → T (member 1 ks) → T (member 2 ks) → Among ks c
+    → (InputRead most s c → (length result ≤ limit → Owed result) × ((length result ≤ limit) ⊎ T (member 15 ks)))
     → Settles ks limit Owed (outcome (roomCheck limit n m then sizeCheck most s then c) limit result) n m
-settles ks limit most n m s c Owed result t u a h =
+settles-within ks limit most n m s c Owed result t u a h =
     settles-by ks limit n m (roomCheck limit n m then sizeCheck most s then c) Owed result (search among) (λ e.
     let p : Passed limit n m (input most s c ∷ []) = passed {cs = input most s c ∷ []} refl (record { is = sym e }) refl refl in
     let (w, r) = h (p .read .0) in
     (p .room .holds, w, r))
+
+-- and where the result is owed also over the limit
+settles {ℓ} : (ks : List ℕ) (limit most n m : ℕ) (s : List ℕ) (c : ℕ) (Owed : List ℕ → Type ℓ) (result : List ℕ) → T (member 1 ks) → T (member 2 ks) → Among ks c
+    → (InputRead most s c → Owed result × ((length result ≤ limit) ⊎ T (member 15 ks)))
+    → Settles ks limit Owed (outcome (roomCheck limit n m then sizeCheck most s then c) limit result) n m
+settles ks limit most n m s c Owed result t u a h =
+    settles-within ks limit most n m s c Owed result t u a (λ p. let (w, r) = h p in (λ l. w, r))
 
 -- The call with two outputs: where the counts are accepted, both files are within their limits.
 both-settle : (d t n a b m : ℕ) → SettlesBoth dearestNumbers 4096 64 (dearPart d t) (dearPath n) (dearestCall a b m d t n) a b m
@@ -121,19 +141,33 @@ both-settle d t n a b m = go (dearestNumber a b m d t n) refl (search among)
     go (suc k) e (inl z) = absurd (omega arith)
     go (suc k) e (inr i) = inl (suc k, i, refl)
 
--- The call that is lent a state: where the counts are accepted, the file is within its limit.
-lent-settle : (s e k n m : ℕ) → SettlesLent generateNumbers 4096 (λ f. f ≡ generated (drawn s) e k) (generateCall n m s e k) s (spent s e k) n m
-unfolding generateCall
-lent-settle s e k n m = go (roomCheck partWords n m then boundsCheck e k) refl (search among)
+-- A call that is lent a number: it settles if its checks give its numbers, and where all pass there is room and the result is owed and within its limit.
+lent-by {ℓ} : (ks : List ℕ) (limit n m : ℕ) (c : ℕ) (Owed : List ℕ → Type ℓ) (result : List ℕ) (kept given : ℕ) → Among ks c
+    → (c ≡ 0 → (4 * limit ≤ n) × Owed result × (length result ≤ limit)) → SettlesLent ks limit Owed (outcome c limit result) kept given n m
+lent-by ks limit n m c Owed result kept given a h = go c refl a
   where
-    go : (x : ℕ) → x ≡ (roomCheck partWords n m then boundsCheck e k) → Among generateNumbers x
-        → SettlesLent generateNumbers 4096 (λ f. f ≡ generated (drawn s) e k) (outcome x partWords (generated (drawn s) e k)) s (spent s e k) n m
-    go zero x i =
-        let p : Passed partWords n m (also (boundsCheck e k) ∷ []) = passed {cs = also (boundsCheck e k) ∷ []} refl (record { is = x }) refl refl in
-        let fits : length (generated (drawn s) e k) ≤ partWords = omega (arith, generated-fits (drawn s) (within e k (p .read .0))) in
-        inr (generated (drawn s) e k, refl, fits, p .room .holds, ap (λ o. leavesLent o s (spent s e k) n m) (outcome-gives partWords (generated (drawn s) e k) fits))
-    go (suc x) e (inl z) = absurd (omega arith)
-    go (suc x) e (inr i) = inl (suc x, i, refl)
+    go : (k : ℕ) → k ≡ c → Among ks k → SettlesLent ks limit Owed (outcome k limit result) kept given n m
+    go zero e b = let (p, w, l) = h (sym e) in inr (result, w, l, p, ap (λ o. leavesLent o kept given n m) (outcome-gives limit result l))
+    go (suc k) e (inl z) = absurd (omega arith)
+    go (suc k) e (inr i) = inl (suc k, i, refl)
+
+-- Where the counts are accepted, the file is within its limit.
+generate-settle : (s e k n m : ℕ) → SettlesLent generateNumbers 4096 (λ f. f ≡ generated (drawn s) e k) (generateCall n m s e k) s (spent s e k) n m
+unfolding generateCall
+generate-settle s e k n m =
+    lent-by generateNumbers partWords n m (roomCheck partWords n m then boundsCheck e k) (λ f. f ≡ generated (drawn s) e k) (generated (drawn s) e k) s (spent s e k) (search among) (λ x.
+    let p : Passed partWords n m (also (boundsCheck e k) ∷ []) = passed {cs = also (boundsCheck e k) ∷ []} refl (record { is = sym x }) refl refl in
+    (p .room .holds, refl, omega (arith, generated-fits (drawn s) (within e k (p .read .0)))))
+
+-- Where a whole is accepted, its triples are within their limit.
+to-triples-settle : (whole : List ℕ) (n m : ℕ) → SettlesLent toTriplesNumbers 12286 (λ f. f ≡ toTriples (words whole)) (toCall n m whole) 0 (length (toTriples (words whole))) n m
+unfolding toCall
+to-triples-settle whole n m =
+    let f = words whole in
+    let rest : Among toTriplesNumbers (wholeCheck f then sayCheck f) = among-first tt (whole-numbers f) (among-more tt (say-numbers f)) in
+    lent-by toTriplesNumbers tripleWords n m (roomCheck tripleWords n m then sizeCheck partWords whole then wholeCheck f then sayCheck f) (λ g. g ≡ toTriples f) (toTriples f) 0 (length (toTriples f)) (search among) (λ x.
+    let c : Checked tripleWords n m (input partWords whole (wholeCheck f) ∷ also (sayCheck f) ∷ []) 0 = record { is = sym x } in
+    (to.writable whole c refl refl .0, refl, to.counted whole c refl))
 
 -- One path of several, in a bundle that splits: where buffers, part and groups pass, it is left with its own checks, of which there is no 4. It is
 -- refused under one of its numbers, or gets what is owed.
@@ -280,7 +314,7 @@ module _ (n m : ℕ) (part groups paths : List ℕ) (Owed : List ℕ → List �
       go (suc k) e (inr j) = let (t, o) = shares .whole (λ z. omega (arith, e)) in inl (suc k, j, λ i h. t i h ∙ sym e, o)
 
 pub demand-1 : Demand1
-unfolding oldSearchCall cutCall firstReplyCall callListCall secondReplyCall joinCall oldSearchGroupedCall firstReplyGroupedCall secondReplyGroupedCall
+unfolding oldSearchCall cutCall firstReplyCall callListCall secondReplyCall joinCall oldSearchGroupedCall firstReplyGroupedCall secondReplyGroupedCall fromCall
 demand-1 = record {
   old-search = λ whole path n m. settles _ _ _ n m whole _ _ _ tt tt
       (among-first tt (whole-numbers (words whole)) (among-first tt (size-numbers 64 path) (among-more tt (path-numbers (words path)))))
@@ -339,7 +373,10 @@ demand-1 = record {
       let asked = loaded (words groups) (words path) in
       (second-reply (words part) asked (words calls) a (asks-checked (own groups) (words path) g b), inl (omega (arith, second-length (words part) asked (words calls) a, p .few))));
   dearest = both-settle;
-  generate = lent-settle;
+  generate = generate-settle;
+  from-triples = λ triples n m. settles-within _ _ _ n m triples _ _ _ tt tt (among-more tt (triples-numbers (words triples)))
+      (λ p. (from-is (words triples) (p .read), inr tt));
+  to-triples = to-triples-settle;
   four-replies = λ part paths ns m.
       let bundle : Among visitNumbers (splitCheck visitPaths paths) = search among in
       let room : Among visitNumbers (roomCheck 4096 (shortest ns) m) = search among in

@@ -1,5 +1,5 @@
 -- Believed. The user's demand 1. Any file, cut list, bundle, groups or counts, with buffers of any length, get their one result or a refusal under a
--- number of document 01 or 02, and a refusal leaves outputs and working buffer all zero, and a lent state unmoved; that of one path of a visit, its
+-- number of document 01 or 02, and a refusal leaves outputs and working buffer all zero, a lent state unmoved and a lent count 0; that of one path of a visit, its
 -- own output, and that of one desk of several, nothing of its own. It is said of what the calls leave, by their contracts (mowqachi/src/lib.rt): `leaves` of their outcomes. That a call ends and touches
 -- nothing else is what the check proves of every function.
 use Prim.Native.Nat.{ℕ, _*_, _≤_, _<_}
@@ -29,6 +29,9 @@ use Rattle.cutter.specs.Cut as cutter
 use Rattle.dearest.specs.Dearest.{dearPart, dearPath, LeftBoth, leftBoth, dearestCall}
 use Rattle.draws.specs.Draws.{drawn}
 use Rattle.generator.specs.Generate.{generated, spent, generateCall}
+use Rattle.triples.specs.Triple.{rootWord, triplesIn, IsWholeOf, toTriples}
+use Rattle.from_triples.specs.From.{fromCall}
+use Rattle.to_triples.specs.To.{toCall}
 use Rattle.demands.specs.Plant.{FinalList, FinalListBy}
 use Rattle.demands.specs.PlantOf.{plantOf}
 
@@ -103,6 +106,12 @@ dearestNumbers = 1 ∷ 21 ∷ []
 abbrev pub generateNumbers : List ℕ
 generateNumbers = 1 ∷ 11 ∷ []
 
+abbrev pub fromTriplesNumbers : List ℕ
+fromTriplesNumbers = 1 ∷ 2 ∷ 15 ∷ 18 ∷ []
+
+abbrev pub toTriplesNumbers : List ℕ
+toTriplesNumbers = 1 ∷ 2 ∷ 3 ∷ 4 ∷ 5 ∷ 6 ∷ 7 ∷ 8 ∷ 19 ∷ []
+
 -- of a visit, and of desks that share a reply: those of the whole, and those of one of the paths. A path has no 4, as its length is where its file ends
 abbrev pub visitNumbers : List ℕ
 visitNumbers = 1 ∷ 2 ∷ 3 ∷ 4 ∷ 5 ∷ 6 ∷ 7 ∷ 17 ∷ []
@@ -118,7 +127,7 @@ abbrev pub rows : List (List ℕ)
 rows =
     oldSearchNumbers ∷ cutNumbers ∷ firstReplyNumbers ∷ callListNumbers ∷ secondReplyNumbers ∷ joinNumbers
     ∷ grouped oldSearchNumbers ∷ grouped firstReplyNumbers ∷ grouped secondReplyNumbers ∷ dearestNumbers ∷ generateNumbers
-    ∷ visitNumbers ∷ visitPathNumbers ∷ grouped visitNumbers ∷ []
+    ∷ fromTriplesNumbers ∷ toTriplesNumbers ∷ visitNumbers ∷ visitPathNumbers ∷ grouped visitNumbers ∷ []
 
 -- Demand 1: for all bytes and all buffers. What a call owes is said in the documents' words, which one file at most meets (docs/DECISIONS.md, 68).
 pub record Demand1 : Type 1 where
@@ -139,6 +148,10 @@ pub record Demand1 : Type 1 where
   pub dearest : (D T n a b m : ℕ) → SettlesBoth dearestNumbers 4096 64 (dearPart D T) (dearPath n) (dearestCall a b m D T n) a b m
   pub generate : (s nodes edges n m : ℕ)
       → SettlesLent generateNumbers 4096 (λ f. f ≡ generated (drawn s) nodes edges) (generateCall n m s nodes edges) s (spent s nodes edges) n m
+  pub from-triples : (triples : List ℕ) (n m : ℕ)
+      → Settles fromTriplesNumbers 4096 (IsWholeOf (rootWord (words triples)) (triplesIn (words triples))) (fromCall n m triples) n m
+  pub to-triples : (whole : List ℕ) (n m : ℕ)
+      → SettlesLent toTriplesNumbers 12286 (λ f. f ≡ toTriples (words whole)) (toCall n m whole) 0 (length (toTriples (words whole))) n m
   pub four-replies : (part paths ns : List ℕ) (m : ℕ)
       → SettlesEach visitNumbers visitPathNumbers 4096 (OwedAt (λ path. IsFirstReply (words part) (words path)) (split visitPaths paths)) (fourRepliesCall ns m part paths) ns m
   pub four-replies-grouped : (part groups paths ns : List ℕ) (m : ℕ)

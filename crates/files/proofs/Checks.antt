@@ -1,9 +1,9 @@
 -- Checks as facts: a chain of checks gives 0 exactly if each of them does, and a single check exactly if its test passes. `simp checks at h`
 -- takes an accepted chain h apart, into the facts that were tested, and `simp checks` makes one. Assumes nothing.
-use mathlib.Core.Path.{_≡_, refl, _∙_}
+use mathlib.Core.Path.{_≡_, refl, sym, _∙_, ap}
 use mathlib.Core.Logic.{_↔_, _⊎_, inl, inr}
 use mathlib.Core.Bool.{Bool, true, false}
-use mathlib.Core.List.{List}
+use mathlib.Core.List.{List, []}
 use Prim.Native.Nat.{ℕ, zero, suc, _*_, _/_, _≤_, _<_}
 use native.Mathlib.Omega.{arith}
 use lib.Dec.{T, leb, ltb, leb→le}
@@ -11,7 +11,7 @@ use lib.ListN.{length}
 use borrow.Author.Tests.{ltb-true, le-leb, lt-leb}
 use Rattle.sets.proofs.Tests.{either, passed, and-iff, le-iff, eq-iff, same-test}
 use Rattle.files.specs.Refuse.{_then_, _unless_, roomCheck}
-use Rattle.files.specs.Outcome.{refused, accepted, outcome, leaves}
+use Rattle.files.specs.Outcome.{Outcome, refused, accepted, outcome, leaves}
 use Rattle.files.specs.Limits.{workBytes}
 
 pub then-iff : (a b : ℕ) → ((a then b) ≡ 0) ↔ ((a ≡ 0) × (b ≡ 0))
@@ -77,3 +77,28 @@ zero-accepted zero limit result n m e =
     short : ((leb (length result) limit ≡ true) ⊎ (leb (length result) limit ≡ false)) → length result ≤ limit
     short (inl t) = leb→le (length result) limit (passed t)
     short (inr t) = absurd (omega (arith, rw t at e))
+
+-- the number of the checks, and then 15
+pub number-is : (k limit : ℕ) (result : List ℕ) (n m : ℕ) → leaves (outcome k limit result) n m .number ≡ (k then 15 unless leb (length result) limit)
+number-is zero limit result n m = elim (either (leb (length result) limit)) [ inl e ↦ rw e | inr e ↦ rw e ]
+number-is (suc k) limit result n m = refl
+
+-- no 15 where the result is within its limit
+pub number-fits : (k limit : ℕ) (result : List ℕ) (n m : ℕ) → (k ≡ 0 → length result ≤ limit) → leaves (outcome k limit result) n m .number ≡ k
+number-fits zero limit result n m h = rw (le-leb (length result) limit (h refl))
+number-fits (suc k) limit result n m h = refl
+
+-- the result of what was accepted
+abbrev resultOf : Outcome → List ℕ
+resultOf (refused k) = []
+resultOf (accepted result) = result
+
+pub outcome-accepted : (k limit : ℕ) (result f : List ℕ) → outcome k limit result ≡ accepted f → (k ≡ 0) × (length result ≤ limit) × (f ≡ result)
+outcome-accepted k limit result f e =
+    let (c, l, q) = zero-accepted k limit result 0 0 (ap (λ o. leaves o 0 0 .number) e) in
+    (c, l, ap resultOf (sym e ∙ q))
+
+-- a check behind another matters where that passes
+pub then-same : (c : ℕ) {x y : ℕ} → (c ≡ 0 → x ≡ y) → (c then x) ≡ (c then y)
+then-same zero h = h refl
+then-same (suc c) h = refl

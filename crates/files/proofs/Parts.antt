@@ -21,6 +21,13 @@ use Rattle.files.proofs.Checks.{then-iff, unless-iff, checks}
 use Rattle.files.proofs.Ordered.{Rising, adds, skips, ends, restarts, scan-checked, scan-rises}
 use Rattle.files.proofs.Blocks.{edge-of}
 
+-- a node word is no edge word
+pub node-not-edge : (w : ℕ) → isNode w ≡ true → isEdge w ≡ false
+node-not-edge w n = ne-eqb (kindOf w) 3 (λ e. omega (arith, eqb-true (kindOf w) 2 n))
+
+pub edge-not-node : (w : ℕ) → isEdge w ≡ true → isNode w ≡ false
+edge-not-node w e = ne-eqb (kindOf w) 2 (λ n. omega (arith, eqb-true (kindOf w) 3 e))
+
 -- Words one after another
 
 -- a chain of checks to its tests, and no further

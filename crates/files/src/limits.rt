@@ -18,4 +18,7 @@ pub const BUNDLE_WORDS: usize = 8192;
 
 pub const FINAL_WORDS: usize = 8192;
 
+// The triples of a plant of the first release.
+pub const TRIPLE_WORDS: usize = 12286;
+
 pub const WORK_BYTES: usize = 32768;

@@ -1,9 +1,8 @@
 -- Request 2: the generated file is what document 02 says, the call gives it, and the old search accepts it. Assumes nothing.
-use mathlib.Core.Path.{_≡_, refl, sym, ap, _∙_}
+use mathlib.Core.Path.{_≡_, sym, ap, _∙_}
 use mathlib.Core.List.{List, map, Memᴰ·cast, Memᴰ·map, Memᴰ·of-map}
-use Prim.Native.Nat.{ℕ, zero, suc, _*_, _≤_}
+use Prim.Native.Nat.{ℕ, _*_}
 use native.Mathlib.Omega.{arith}
-use lib.ListN.{length}
 use Rattle.sets.specs.Sets.{Lists, span}
 use Rattle.sets.proofs.Spans.{span-iff}
 use Rattle.sets.proofs.Sets.{setOf-lists, lists-iff}
@@ -13,14 +12,13 @@ use Rattle.files.specs.Outcome.{outcome, leaves}
 use Rattle.files.specs.Part.{wholeCheck}
 use Rattle.files.specs.Limits.{partWords, finalWords}
 use Rattle.files.proofs.Checks.{then-iff, outcome-gives}
-use Rattle.files.proofs.Parts.{whole-part, part-some}
 use Rattle.old.specs.Old.{listed, oldSearchCall, oldSearchGroupedCall}
-use Rattle.old.proofs.OldSearch.{listed-length}
+use Rattle.old.proofs.OldCalls.{old-number}
 use Rattle.draws.specs.Draws.{drawn}
 use Rattle.edge_draws.specs.Edges.{edgeDrawn, edgesDrawn}
 use Rattle.edge_draws.specs.Bounds.{Within}
 use Rattle.generator.specs.Generate.{generated, boundsCheck, generateCall}
-use Rattle.generator.proofs.Wholes.{generated-length, generated-fits, generated-site, generated-words, generated-nodes, generated-roots, generated-doors, generated-stopped, generated-edges, generated-whole, generated-bytes}
+use Rattle.generator.proofs.Wholes.{generated-length, generated-fits, generated-site, generated-words, generated-nodes, generated-roots, generated-doors, generated-stopped, generated-edges, generated-whole}
 use Rattle.generator.proofs.Answering.{within}
 use Rattle.generated.specs.Generated.{DrawnFor, IsGenerated, Request2}
 
@@ -48,26 +46,12 @@ is-generated d {n} {k} c = record {
   within = omega (arith, generated-fits d c);
 }
 
--- the number of an outcome whose result is within its limit is that of its checks
-number-is : (x limit : ℕ) (result : List ℕ) (n m : ℕ) → length result ≤ limit → leaves (outcome x limit result) n m .number ≡ x
-number-is zero limit result n m h = rw (outcome-gives limit result h)
-number-is (suc x) limit result n m h = refl
-
--- checks that pass do not count
-passes-over : (a b c x : ℕ) → b ≡ 0 → c ≡ 0 → (a then b then c then x) ≡ (a then x)
-passes-over a b c x e f = rw (e, f)
-
 module _ (d : ℕ → ℕ) {n k : ℕ} (c : Within n k) where
   -- whatever the path: x is the number of the checks behind the whole's
-  old-number : (path : List ℕ) (x out work : ℕ)
+  any-path : (path : List ℕ) (x out work : ℕ)
       → leaves (outcome (roomCheck finalWords out work then sizeCheck partWords (bytesOf (generated d n k)) then wholeCheck (words (bytesOf (generated d n k))) then x)
       finalWords (listed (words (bytesOf (generated d n k))) path)) out work .number ≡ (roomCheck finalWords out work then x)
-  old-number path x out work =
-      let f = generated d n k in
-      let (size, same) = generated-bytes d c in
-      let some = part-some f (whole-part f (generated-whole d c)) in
-      rw same (number-is _ finalWords (listed f path) out work (omega (arith, listed-length f path some, generated-fits d c))
-      ∙ passes-over (roomCheck finalWords out work) (sizeCheck partWords (bytesOf f)) (wholeCheck f) x size (generated-whole d c))
+  any-path = old-number (generated d n k) (generated-whole d c) (generated-words d c) (omega (arith, generated-fits d c))
 
 pub request-2 : Request2
 unfolding oldSearchCall oldSearchGroupedCall generateCall
@@ -76,6 +60,6 @@ request-2 = record {
   given = λ s n k out work h.
       let (_, b) = then-iff (roomCheck 4096 out work) (boundsCheck n k) .0 h in
       ap (λ x. outcome x partWords (generated (drawn s) n k)) h ∙ outcome-gives partWords (generated (drawn s) n k) (omega (arith, generated-fits (drawn s) (within n k b)));
-  old-search = λ d n k h path out work. old-number d (within n k h) (words path) _ out work;
-  old-search-grouped = λ d n k h groups path out work. old-number d (within n k h) _ _ out work;
+  old-search = λ d n k h path out work. any-path d (within n k h) (words path) _ out work;
+  old-search-grouped = λ d n k h groups path out work. any-path d (within n k h) _ _ out work;
 }

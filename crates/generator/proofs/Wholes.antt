@@ -16,15 +16,11 @@ use Rattle.sets.proofs.Lengths.{setOf-length}
 use Rattle.sets.proofs.Sets.{setOf-lists}
 use Rattle.sets.proofs.Tests.{eq-iff}
 use Rattle.sets.proofs.Filter.{filter-none}
-use Rattle.files.specs.Word.{words, bytesOf}
 use Rattle.files.specs.Field.{kindOf, siteOf, doorOf, rootOf, stoppedOf, targetOf}
-use Rattle.files.specs.Refuse.{sizeCheck}
 use Rattle.files.specs.Limits.{partWords}
-use Rattle.files.specs.Part.{partCheck, wholeCheck, nodes, nodesWith, roots, doors, stopped, edges}
+use Rattle.files.specs.Part.{wholeCheck, nodes, nodesWith, roots, doors, stopped, edges}
 use Rattle.files.proofs.Fields.{Node, node, edge}
-use Rattle.files.proofs.Parts.{part-some}
-use Rattle.files.proofs.Words.{words-bytes, size-checked}
-use Rattle.files.proofs.Compose.{composed, All, OneRoot, with-composed, nodes-composed, edges-composed, file-header, file-small, file-part, file-whole}
+use Rattle.files.proofs.Compose.{composed, All, OneRoot, with-composed, nodes-composed, edges-composed, file-header, file-small, file-whole}
 use Rattle.edge_draws.specs.Edges.{edgeDrawn, edgesDrawn}
 use Rattle.edge_draws.specs.Bounds.{Within}
 use Rattle.generator.specs.Generate.{nodeAt, nodeDrawn, generated}
@@ -102,10 +98,6 @@ module _ (d : ℕ → ℕ) {n e : ℕ} (c : Within n e) where
   one-root : OneRoot nodeAt links false (span 0 n)
   one-root = record { none = λ s. absurd s; one = λ x y m k h t u. omega (arith, eq-iff y 0 .0 (rw (named y k .root-is) at u)) }
 
-  generated-part : partCheck (generated d n e) ≡ 0
-  unfolding generated
-  generated-part = file-part nodeAt links 0 (span 0 n) (omega arith) short composes (span-ascending 0 n) one-root
-
   pub generated-whole : wholeCheck (generated d n e) ≡ 0
   unfolding generated
   generated-whole =
@@ -139,8 +131,3 @@ module _ (d : ℕ → ℕ) {n e : ℕ} (c : Within n e) where
   pub generated-edges : (x : ℕ) → x < n → edges (drop 1 (generated d n e)) x ≡ links x
   unfolding generated
   generated-edges x h = edges-composed nodeAt links (span 0 n) composes x (span-iff 0 n x .1 (omega arith))
-
-  -- so the file's bytes pass every check that a call makes of a whole
-  pub generated-bytes : (sizeCheck partWords (bytesOf (generated d n e)) ≡ 0) × (words (bytesOf (generated d n e)) ≡ generated d n e)
-  generated-bytes =
-      (size-checked partWords (generated d n e) (part-some (generated d n e) generated-part) (omega (arith, generated-fits)), words-bytes (generated d n e) generated-words)

@@ -15,12 +15,15 @@ ghost use Rattle.old.specs.Old.{oldSearchCall, oldSearchGroupedCall};
 ghost use Rattle.cutter.specs.Cut.{cutCall};
 ghost use Rattle.dearest.specs.Dearest.{leftBoth, dearestCall};
 ghost use Rattle.generator.specs.Generate.{spent, generateCall};
+ghost use Rattle.from_triples.specs.From.{fromCall};
+ghost use Rattle.to_triples.specs.To.{leavesCounted};
 use cutter::call::cut;
 use dearest::call::dearest;
 use eight_replies::call::eight_replies;
 use eight_replies::call::eight_replies_grouped;
 use four_replies::call::four_replies;
 use four_replies::call::four_replies_grouped;
+use from_triples::call::from_triples;
 use generator::call::generate;
 use hub_calls::call::call_list;
 use hub_join::call::join;
@@ -30,6 +33,7 @@ use site_first::call::first_reply;
 use site_first::call::first_reply_grouped;
 use site_second::call::second_reply;
 use site_second::call::second_reply_grouped;
+use to_triples::call::to_triples;
 
 #[no_mangle]
 pub extern "C" fn mowqachi_old_search(
@@ -243,4 +247,26 @@ pub extern "C" fn mowqachi_eight_replies_grouped(
         ≡ eightRepliesGroupedCall (length (now (out .entry))) (length (now (work .entry))) (now (part .entry)) (now (groups .entry)) (now (paths .entry)) ⌝ }
 {
     eight_replies_grouped(part, groups, paths, out, work)
+}
+
+#[no_mangle]
+pub extern "C" fn mowqachi_from_triples(triples: &[u8], out: &mut [u8], work: &mut [u8]) -> u32
+    ensures { λ r. ⌜ left r (now (out .exit)) (now (work .exit))
+        ≡ leaves (fromCall (length (now (out .entry))) (length (now (work .entry))) (now (triples .entry)))
+        (length (now (out .entry))) (length (now (work .entry))) ⌝ }
+{
+    from_triples(triples, out, work)
+}
+
+#[no_mangle]
+pub extern "C" fn mowqachi_to_triples(
+    whole: &[u8],
+    out: &mut [u8],
+    count: &mut u32,
+    work: &mut [u8],
+) -> u32
+    ensures { λ r. ⌜ leftLent (now (count .exit)) (left r (now (out .exit)) (now (work .exit)))
+        ≡ leavesCounted (length (now (out .entry))) (length (now (work .entry))) (now (whole .entry)) ⌝ }
+{
+    to_triples(whole, out, count, work)
 }

@@ -14,7 +14,7 @@ use Rattle.files.specs.Part.{wholeCheck}
 use Rattle.files.specs.Path.{pathCheck}
 use Rattle.files.specs.Groups.{groupsCheck, loaded, ourGroups}
 use Rattle.files.specs.Limits.{partWords, pathWords, finalWords, workBytes}
-use Rattle.files.proofs.Checks.{then-zero, room-checked, outcome-gives}
+use Rattle.files.proofs.Checks.{then-zero, room-checked, outcome-gives, number-fits}
 use Rattle.files.proofs.Words.{words-bytes, size-checked}
 use Rattle.files.proofs.Parts.{whole-part, part-some}
 use Rattle.expressions.proofs.Paths.{path-some}
@@ -61,3 +61,16 @@ pub old-call : (out work : ℕ) (f path : List ℕ) → 4 * finalWords ≤ out �
 old-call out work f path h k v l c w m a =
     sym (old-ours out work (bytesOf f) (bytesOf path)) ∙ grouped-call out work f (bytesOf ourGroups) path h k v l c refl w m a
     ∙ ap accepted (listed-same f (ours-same path))
+
+-- checks that pass do not count
+passes-over : (a b c x : ℕ) → b ≡ 0 → c ≡ 0 → (a then b then c then x) ≡ (a then x)
+passes-over a b c x e f = rw (e, f)
+
+-- an accepted whole is refused with no path and no groups: x is the number of the checks behind the whole's
+pub old-number : (f : List ℕ) → wholeCheck f ≡ 0 → ((w : ℕ) → Mem w f → w < 2 ^ 32) → length f ≤ partWords → (path : List ℕ) (x n m : ℕ)
+    → leaves (outcome (roomCheck finalWords n m then sizeCheck partWords (bytesOf f) then wholeCheck (words (bytesOf f)) then x)
+    finalWords (listed (words (bytesOf f)) path)) n m .number ≡ (roomCheck finalWords n m then x)
+old-number f c word l path x n m =
+    let some = part-some f (whole-part f c) in
+    rw (words-bytes f word) (number-fits _ finalWords (listed f path) n m (λ e. omega (arith, listed-length f path some))
+    ∙ passes-over (roomCheck finalWords n m) (sizeCheck partWords (bytesOf f)) (wholeCheck f) x (size-checked partWords f some l) c)

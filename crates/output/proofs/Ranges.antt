@@ -2,11 +2,14 @@
 -- one number. Assumes nothing.
 use mathlib.Core.Path.{_≡_, refl, ap, _∙_}
 use mathlib.Core.Bool.{Bool, true, false}
-use mathlib.Core.List.{[], _++_, map}
-use Prim.Native.Nat.{ℕ, zero, suc, _+_, _*_, _<_}
+use mathlib.Core.List.{List, [], _++_, map}
+use Prim.Native.Nat.{ℕ, zero, suc, _+_, _*_, _/_, _%_, _<_}
 use native.Mathlib.Omega.{arith}
 use Rattle.sets.specs.Sets.{Ascending}
-use Rattle.sets.specs.States.{hasState, keep, members}
+use Rattle.sets.specs.States.{hasState, keep, members, statesOf}
+use Rattle.sets.specs.Table.{half}
+use Rattle.sets.specs.NodeSet.{hasNode}
+use Rattle.sets.proofs.Sets.{map-ascending}
 use Rattle.sets.proofs.Members.{in-members}
 use Rattle.files.specs.Field.{pair}
 use Rattle.output.specs.Pairs.{pairsWith}
@@ -54,3 +57,14 @@ pub members-pairs : (p : ℕ → Bool) (x s : ℕ) → ((q : ℕ) → q < 16 →
 members-pairs p x s h =
     let z : 16 * x ≡ x * 16 + 0 = omega arith in
     ap (λ k. members p k 16) z ∙ members-shift p (hasState s) (x * 16) 0 16 (λ q l. h q (omega arith))
+
+pub pairs-ascending : (x s : ℕ) → Ascending (pairsWith x s)
+pairs-ascending x s = map-ascending (pair x) (statesOf s) (λ p q m k l. omega arith) (members-ascending (hasState s) 0 16)
+
+-- the nodes of a cell are pairs of the cell's number
+pub at-cell : (w : List ℕ) (base i q : ℕ) → q < 16 → hasNode w base (pair i q) ≡ hasState (half w base i) q
+unfolding hasNode
+at-cell w base i q l =
+    let a : pair i q / 16 ≡ i = omega arith in
+    let b : pair i q % 16 ≡ q = omega arith in
+    rw (a, b)

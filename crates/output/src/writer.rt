@@ -3,12 +3,12 @@ use files::word::put_word;
 ghost use mathlib.Core.List.{[], _∷_};
 ghost use Prim.Native.Nat.{_*_, _≤_};
 ghost use lib.ListN.{length};
-ghost use Rattle.files.specs.Limits.{finalWords};
+ghost use Rattle.files.specs.Limits.{tripleWords};
 ghost use Rattle.output.specs.Writer.{Counts, Writes};
 
 // The count after k more words.
 pub fn advance(limit: usize, count: usize, k: usize) -> usize
-    requires { ⌜ limit ≤ finalWords ⌝ }
+    requires { ⌜ limit ≤ tripleWords ⌝ }
     ensures { λ r. ⌜ Counts limit count k r ⌝ }
 {
     if limit < count {
@@ -22,7 +22,7 @@ pub fn advance(limit: usize, count: usize, k: usize) -> usize
 
 // One more word.
 pub fn push(out: &mut [u8], limit: usize, count: usize, w: u32) -> usize
-    requires { ⌜ (limit ≤ finalWords) × (4 * limit ≤ length (now out)) ⌝ }
+    requires { ⌜ (limit ≤ tripleWords) × (4 * limit ≤ length (now out)) ⌝ }
     ensures { λ r. ⌜ Writes limit (length (now (out .entry))) (now (out .entry)) count (now (out .exit)) r (w ∷ []) ⌝ }
 {
     if count < limit {

@@ -12,7 +12,7 @@ use Rattle.sets.specs.Reach.{Reach, seed, next}
 use Rattle.sets.specs.States.{hasState, statesOf}
 use Rattle.sets.proofs.Members.{members-in, in-members}
 use Rattle.sets.proofs.Reach.{reach-trans}
-use Rattle.sets.proofs.Sets.{map-ascending, append-ascending, lists-unique, member-iff}
+use Rattle.sets.proofs.Sets.{append-ascending, lists-unique, member-iff}
 use Rattle.sets.proofs.Tests.{either, passed, is-true}
 use Rattle.sets.proofs.Cases.{eq-or-ne, and-left, clash}
 use Rattle.files.specs.Field.{nodeOf, doorOf, rootOf, doorWord, rowWord, reachWord, pair, pairNode, pairState}
@@ -30,8 +30,7 @@ use Rattle.listing.specs.Rows.{Places, pairsAt, pairsUpTo}
 use Rattle.listing.proofs.Answering.{number-below}
 use Rattle.listing.proofs.Rowing.{pairs-few}
 use Rattle.output.specs.Writer.{Puts, Counts, Writes}
-use Rattle.output.specs.Pairs.{pairsWith}
-use Rattle.output.proofs.Ranges.{members-ascending}
+use Rattle.output.proofs.Ranges.{pairs-ascending}
 use Rattle.output.proofs.Writing.{written-full, writes-counted, writes-none, writes-more}
 use Rattle.first_replies.specs.FirstReply.{reported, rowWords}
 use Rattle.reporting.specs.Reporting.{Idle, Ready, MayReport, Reports, rowAt, rowsBelow, doorAt, wordsAt, wordsBelow}
@@ -61,10 +60,6 @@ row-none q (c ∷ cs) h = absurd (omega arith)
 row-some : (q : ℕ) (cs : List ℕ) → (length cs ≡ 0 → ⊥) → rowWord q ∷ map reachWord cs ≡ rowWords q cs
 row-some q [] h = absurd (h refl)
 row-some q (c ∷ cs) h = refl
-
--- pairs of rising nodes with rising states rise
-pairs-rise : (x s : ℕ) → Ascending (pairsWith x s)
-pairs-rise x s = map-ascending (pair x) (statesOf s) (λ p q m k l. omega arith) (members-ascending (hasState s) 0 16)
 
 -- what a pair of a place is
 at-place : (ws w : List ℕ) (k c : ℕ) → Mem c (pairsAt ws w k) ↔ ((pairNode c ≡ number ws (placeOf w k)) × (isReached w (placeOf w k) (pairState c) ≡ true))
@@ -99,7 +94,7 @@ up-to ws w (suc t) c = (
 up-to-rises : (ws w : List ℕ) (t : ℕ) → ((k l : ℕ) → k < l → l < t → number ws (placeOf w k) < number ws (placeOf w l)) → Ascending (pairsUpTo ws w t)
 up-to-rises ws w zero h = tt
 up-to-rises ws w (suc t) h = append-ascending (pairsUpTo ws w t) (pairsAt ws w t)
-    (up-to-rises ws w t (λ k l a b. h k l a (omega arith))) (pairs-rise (number ws (placeOf w t)) (reachedOf w (placeOf w t)))
+    (up-to-rises ws w t (λ k l a b. h k l a (omega arith))) (pairs-ascending (number ws (placeOf w t)) (reachedOf w (placeOf w t)))
     (λ x y m n.
     let (k, l, i) = up-to ws w t x .0 m in
     omega (arith, h k t l (omega arith), at-place ws w k x .0 i .0, at-place ws w t y .0 n .0))

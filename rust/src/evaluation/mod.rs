@@ -1,9 +1,9 @@
 //! Document 01 evaluated, with labels outside a range (request 1), plants that are drawn (request 2), groups that a call is handed (request
 //! 3), the length of a first reply before each door (request 4), links that nobody walks (request 5), several paths in one visit (request 6),
-//! stopped nodes (request 7), eight operands waiting at most (request 9), one reply for eight askers (request 11), which parts no reply tells
-//! apart and which plants are grown (request 12), and the dearest part and path (request 13): every call as a function from bytes, numbers and
-//! buffer lengths to a refusal or the result's words. It is written from the documents alone, for plainness and not for speed, and shares no
-//! method with the library where they leave a choice.
+//! stopped nodes (request 7), the triple edition (request 8), eight operands waiting at most (request 9), one reply for eight askers (request
+//! 11), which parts no reply tells apart and which plants are grown (request 12), and the dearest part and path (request 13): every call as a
+//! function from bytes, numbers and buffer lengths to a refusal or the result's words. It is written from the documents alone, for plainness
+//! and not for speed, and shares no method with the library where they leave a choice.
 
 pub mod dearest;
 pub mod desks;
@@ -18,6 +18,7 @@ pub mod plant;
 pub mod relation;
 pub mod replies;
 pub mod states;
+pub mod triples;
 pub mod visit;
 pub mod words;
 
@@ -30,6 +31,7 @@ use self::part::*;
 use self::path::{read_path, Path};
 use self::plant::Plant;
 use self::replies::*;
+use self::triples::{read_triples, Edition, TRIPLES_LIMIT};
 use self::visit::{split_paths, VISIT_PATHS};
 use self::words::*;
 
@@ -180,4 +182,18 @@ pub fn generate(source: &Source, room: Room) -> Generated {
     check_room(room, FILE_LIMIT)?;
     input("nodes and edges", source.check())?;
     Ok((source.part().words(), source.moved()))
+}
+
+/// The whole that triples say.
+pub fn from_triples(triples: &[u8], room: Room) -> Outcome {
+    check_room(room, FILE_LIMIT)?;
+    let edition = input("triples", read_triples(triples))?;
+    check_result(edition.whole().words(), FILE_LIMIT)
+}
+
+/// The triples that say a whole, with the root before them. The count that is handed out too is that of these words.
+pub fn to_triples(whole: &[u8], room: Room) -> Outcome {
+    check_room(room, TRIPLES_LIMIT)?;
+    let whole = input("whole for triples", read_whole(whole))?;
+    Ok(input("whole for triples", Edition::of(&whole))?.words())
 }

@@ -1,4 +1,4 @@
-//! Random files, counts, states, visits, desks, whole questions and damage.
+//! Random files, counts, states, triples, visits, desks, whole questions and damage.
 
 pub mod alike;
 pub mod bundle;
@@ -12,4 +12,5 @@ pub mod path;
 pub mod plant;
 pub mod question;
 pub mod sources;
+pub mod triples;
 pub mod visits;

@@ -1,6 +1,7 @@
 //! Programs that go wrong about the plant that is drawn: for which counts, how it is drawn and written down, and what is left.
 
 use super::leaving::*;
+use super::lists::*;
 use super::{names, Named};
 use crate::beside::Left;
 use crate::evaluation::generator::{state_after, Source, LEAST_ROOM};
@@ -130,8 +131,8 @@ pub const DRAWING: [Named<Other>; 61] = [
     ("edges equal to the one drawn before alone", Kept(|edges| sorted(neighbours_once(edges)))),
     ("edges in the order of the draws", Kept(|edges| first_of_each(edges, |edge| edge))),
     ("edges in falling order", Kept(|edges| reversed((RIGHT.kept)(edges)))),
-    ("edges in the order of their labels alone", Kept(|edges| by(edges, |edge| edge.0))),
-    ("edges in the order of their targets alone", Kept(|edges| by(edges, |edge| edge.1))),
+    ("edges in the order of their labels alone", Kept(|edges| once_by(edges, |edge| edge.0))),
+    ("edges in the order of their targets alone", Kept(|edges| once_by(edges, |edge| edge.1))),
     ("an edge put ahead of one other at most", Kept(|edges| one_ahead(first_of_each(edges, |edge| edge)))),
     ("three edges kept", Kept(|edges| (RIGHT.kept)(edges).into_iter().take(3).collect())),
     ("equal edges of two nodes become one", Written(|part, _| once_in_all(part))),
@@ -309,37 +310,14 @@ fn drawn_again(draws: &mut Draws) -> Vec<Edge> {
     edges
 }
 
-fn reversed<T>(items: Vec<T>) -> Vec<T> {
-    items.into_iter().rev().collect()
-}
-
-fn sorted(mut edges: Vec<Edge>) -> Vec<Edge> {
-    edges.sort();
-    edges
-}
-
-/// The edges without each that is by this the same as one before it.
-fn first_of_each<T: Ord>(mut edges: Vec<Edge>, of: impl Fn(Edge) -> T) -> Vec<Edge> {
-    let mut seen = BTreeSet::new();
-    edges.retain(|edge| seen.insert(of(*edge)));
-    edges
-}
-
 fn without_equals(edges: &[Edge]) -> Vec<Edge> {
     let count = |edge: &Edge| edges.iter().filter(|other| *other == edge).count();
     edges.iter().copied().filter(|edge| count(edge) == 1).collect()
 }
 
-fn neighbours_once(mut edges: Vec<Edge>) -> Vec<Edge> {
-    edges.dedup();
-    edges
-}
-
 /// Each edge once, in this order, and those that it leaves open as they were drawn.
-fn by(edges: Vec<Edge>, of: impl Fn(Edge) -> u32) -> Vec<Edge> {
-    let mut edges = first_of_each(edges, |edge| edge);
-    edges.sort_by_key(|edge| of(*edge));
-    edges
+fn once_by(edges: Vec<Edge>, of: impl Fn(Edge) -> u32) -> Vec<Edge> {
+    by(first_of_each(edges, |edge| edge), of)
 }
 
 fn one_ahead(mut edges: Vec<Edge>) -> Vec<Edge> {
@@ -354,11 +332,6 @@ fn one_ahead(mut edges: Vec<Edge>) -> Vec<Edge> {
 fn once_in_all(mut part: Part) -> Vec<u32> {
     let mut seen = BTreeSet::new();
     part.nodes.iter_mut().for_each(|node| node.edges.retain(|edge| seen.insert(*edge)));
-    part.words()
-}
-
-fn with_nodes(mut part: Part, other: impl Fn(&mut Node)) -> Vec<u32> {
-    part.nodes.iter_mut().for_each(other);
     part.words()
 }
 
@@ -381,13 +354,6 @@ fn one_up(node: &mut Node) {
 fn without_loops(node: &mut Node) {
     let own = node.number;
     node.edges.retain(|edge| edge.1 != own);
-}
-
-/// With another length in the header.
-fn headed(part: Part, other: impl Fn(u32) -> u32) -> Vec<u32> {
-    let mut words = part.words();
-    words[0] = PART << 28 | other(bits(words[0], 13, 0));
-    words
 }
 
 fn within(count: u32, bounds: RangeInclusive<u32>) -> bool {
@@ -414,7 +380,7 @@ impl Buffered<2> for InRoom {
 fn refused(call: &InRoom, number: u32, other: impl Fn(u32) -> u32) -> Left {
     let left = call.owed(call.lengths());
     match left.number() == number && number != 0 {
-        true => Left { state: Some(other(call.0.state)), ..left },
+        true => Left { word: Some(other(call.0.state)), ..left },
         false => left,
     }
 }

@@ -1,0 +1,1 @@
+// What is promised of the triple edition. Nothing runs here.

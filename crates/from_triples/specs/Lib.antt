@@ -1,0 +1,3 @@
+pub mod From
+pub mod Ends
+pub mod Nodes

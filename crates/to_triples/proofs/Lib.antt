@@ -1,0 +1,4 @@
+pub mod Links
+pub mod Nodes
+pub mod Saying
+pub mod Answering

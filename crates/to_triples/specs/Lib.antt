@@ -1,0 +1,2 @@
+pub mod To
+pub mod Say

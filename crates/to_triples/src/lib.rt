@@ -1,0 +1,4 @@
+// The triples of a whole file.
+pub mod call;
+mod listing;
+mod say;
