@@ -6,7 +6,7 @@ use hex::lines::print_words;
 use path_bundles::split::file_in;
 
 // A call's or a trip's number and, where it is 0, the bytes of its files at the front of the output.
-#[derive(Drop)]
+#[derive(Clone, Copy)]
 pub struct Told {
     pub number: u32,
     pub end: usize,

@@ -16,14 +16,14 @@ use replies::answers::check_answers;
 use replies::reply::check_reply;
 
 // Which replies a bundle is of.
-#[derive(Drop)]
+#[derive(Clone, Copy)]
 pub enum Trip {
     First,
     Second,
 }
 
 // What is read of a file at the front of a stretch: the number of the refusal, or how many words on the next file starts.
-#[derive(Drop)]
+#[derive(Clone, Copy)]
 pub enum Stretch {
     Refused(u32),
     Next(usize),

@@ -5,7 +5,7 @@ ghost use Rattle.cutter.specs.Cut.{passed};
 use files::part::is_node;
 
 // The index of the next cut byte, and whether the words before it end in those of a node of the asked site, or of another.
-#[derive(Drop)]
+#[derive(Clone, Copy)]
 pub struct Place {
     pub cut: usize,
     pub mine: bool,

@@ -11,7 +11,7 @@ pub const SHORT_WORDS: usize = 512;
 
 // The numbers are bytes that are entered at the top, so that the first desk's is the lowest once there are eight; `words` are put in; `later` are
 // the words of short replies of desks from `next` on.
-#[derive(Drop)]
+#[derive(Clone, Copy)]
 pub struct Stand {
     pub numbers: u64,
     pub next: usize,

@@ -1,4 +1,2 @@
 pub mod Wrapping
 pub mod Generators
-pub mod Numbers
-pub mod Loan

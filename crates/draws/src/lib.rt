@@ -1,2 +1,4 @@
 // Draws: numbers from a 32-bit state, the same on every machine.
+#![tactic(auto)]
+
 pub mod generator;

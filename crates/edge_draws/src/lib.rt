@@ -1,2 +1,4 @@
 // The edges of a node, drawn: in order, equal ones once.
+#![tactic(auto)]
+
 pub mod edges;

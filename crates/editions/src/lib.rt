@@ -1,1 +1,2 @@
 // What is promised of the triple edition. Nothing runs here.
+#![tactic(auto)]

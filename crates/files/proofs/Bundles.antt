@@ -121,6 +121,7 @@ module _ (body : ℕ → List ℕ → ℕ) where
   pub file_reach : (f : List ℕ) → File 7 body f → (w : ℕ) → Mem w f → T (is_reach w) → Mem w (drop 1 f)
   file_reach (h ∷ ws) c w (here e) t = absurd (rw (e, header_kind 7 body (h ∷ ws) c) at t)
   file_reach (h ∷ ws) c w (there m) t = m
+  file_reach [] c w x3 t = elim x3 [ ]
 
 -- no state of an accepted file's reach words is above its n
 pub file_states : (f : List ℕ) → File 7 reply_check f → (w : ℕ) → Mem w f → T (is_reach w) → state_of w ≤ labels_of (get_or f 0 0)

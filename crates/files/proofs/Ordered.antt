@@ -36,6 +36,7 @@ module _ {S : Type 0} (check : S → ℕ → ℕ) (next : S → ℕ → S) (end 
   pub scan_checked : (st : S) (ws : List ℕ) → scan_words check next end st ws ≡ 0 → (w : ℕ) → Mem w ws → (u : S) × (check u w ≡ 0)
   scan_checked st (v ∷ ws) s w (here q) = (st, rw q ((then_iff (check st v) _).0 s).0)
   scan_checked st (v ∷ ws) s w (there m) = scan_checked (next st v) ws ((then_iff (check st v) _).0 s).1 w m
+  scan_checked st [] s w x'' = elim x'' [ ]
 
   pub scan_rises : (low : S → ℕ) (read : List ℕ → List ℕ) → read [] ≡ [] → (st : S) (ws : List ℕ)
       → ((u : S) (v : ℕ) (vs : List ℕ) → (v ∷ vs) ⊆ ws → check u v ≡ 0 → scan_words check next end (next u v) vs ≡ 0 → Step next low read u v vs)

@@ -10,7 +10,7 @@ use crate::field::kind;
 use crate::refuse::{choose, refuse};
 
 // The labels that a label word holds: those of a range, its low and its high end; those of a group; or those outside a range.
-#[derive(Drop)]
+#[derive(Clone, Copy)]
 pub enum Label {
     Range(u16, u16),
     Group(u32),
@@ -18,7 +18,7 @@ pub enum Label {
 }
 
 // 0 empty word, 1 then, 2 or, 3 star; wrong, where the word is no expression word.
-#[derive(Drop)]
+#[derive(Clone, Copy)]
 pub enum ExprWord {
     Label(Label),
     Operator(u32),

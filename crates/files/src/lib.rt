@@ -1,4 +1,6 @@
 // Files of 32-bit little-endian words: words and fields, a cursor, the checks that every file shares, and what a call leaves.
+#![tactic(auto)]
+
 pub mod buffer;
 pub mod cursor;
 pub mod expr;

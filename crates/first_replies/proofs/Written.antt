@@ -153,15 +153,16 @@ module _ (n : ℕ) (small : n < 16) where
         begins (c ∷ cs) h k = rw (field.row p (omega arith)).kind_is
 
     -- the row of a state is read
-    row_made : {qs : List ℕ} (q : ℕ) → Ascending qs → Rows f qs → Mem q qs → row (rows_of f qs) q ≡ f q
+    row_made : (qs : List ℕ) (q : ℕ) → Ascending qs → Rows f qs → Mem q qs → row (rows_of f qs) q ≡ f q
     unfolding flatten
-    row_made q a g (here {x = p} {xs = qs} e) =
+    row_made (p ∷ qs) q a g (here e) =
         let h = g p (here refl) in
         let g' : Rows f qs = λ p m. g p (there m) in
         rw e (row_own p (f p) (rows_of f qs) h.0 h.1 (row_absent qs p g' (λ m. omega (arith, a.0 p m))) (front_rows qs g'))
-    row_made q a g (there {x = p} {xs = qs} m) =
+    row_made (p ∷ qs) q a g (there m) =
         let h = g p (here refl) in
-        row_other p q (f p) (rows_of f qs) h.0 (λ e. omega (arith, a.0 q m)) h.1 ∙ row_made q a.1 (λ p m. g p (there m)) m
+        row_other p q (f p) (rows_of f qs) h.0 (λ e. omega (arith, a.0 q m)) h.1 ∙ row_made qs q a.1 (λ p m. g p (there m)) m
+    row_made [] q a g x3 = elim x3 [ ]
 
   -- The doors' words, one door after another
 
@@ -249,7 +250,7 @@ module _ (n : ℕ) (small : n < 16) where
     -- the rows of a door are what is reported of it, and there is none for a state above n
     pub rows_written : (ds : List ℕ) → Distinct (map node_of ds) → (w q : ℕ) → Mem w ds → q ≤ n
         → rows (flatten (map (block r n) ds)) (pair (node_of w) q) ≡ r (node_of w) q
-    rows_written ds d w q m h = rows_behind ds d w q m (omega arith) ∙ row_made (r (node_of w)) q (states_ascending n) (good_rows w) ((states_iff n q).1 h)
+    rows_written ds d w q m h = rows_behind ds d w q m (omega arith) ∙ row_made (r (node_of w)) states q (states_ascending n) (good_rows w) ((states_iff n q).1 h)
 
     pub rows_above : (ds : List ℕ) → Distinct (map node_of ds) → (w q : ℕ) → Mem w ds → n < q → q < 16
         → rows (flatten (map (block r n) ds)) (pair (node_of w) q) ≡ []

@@ -1,1 +1,2 @@
 // What a first reply is, and what follows from that. Nothing runs here.
+#![tactic(auto)]

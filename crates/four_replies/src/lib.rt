@@ -1,2 +1,3 @@
 // Four paths in one visit, as a call.
+#![tactic(auto)]
 pub mod call;

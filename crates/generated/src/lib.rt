@@ -1,1 +1,2 @@
 // What is promised of the files of the load bench. Nothing runs here.
+#![tactic(auto)]

@@ -42,7 +42,7 @@ fn check(nodes: u32, edges: u32, out: usize, work: usize) -> u32
 }
 
 // A number, and the state that the caller gets back.
-#[derive(Drop)]
+#[derive(Clone, Copy)]
 pub struct Drawn {
     pub number: u32,
     pub state: u32,

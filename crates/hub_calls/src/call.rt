@@ -22,7 +22,7 @@ use output::close::close;
 use output::settle::settle;
 
 // The number of the checks, and the number of doors in the index where all passed.
-#[derive(Drop)]
+#[derive(Clone, Copy)]
 pub struct Verdict {
     pub number: u32,
     pub doors: usize,

@@ -13,7 +13,7 @@ use row_scan::rows::{Rows, in_rows, is_followed, reach_node, turn};
 use sets::table::get16;
 
 // Whether a stray was met, and the stack's height.
-#[derive(Drop)]
+#[derive(Clone, Copy)]
 pub struct Ending {
     pub stray: bool,
     pub top: usize,

@@ -8,7 +8,7 @@ use files::cursor::{Cursor, Step};
 use files::field::kind;
 
 // Which words of a kind: all, or those with a bit.
-#[derive(Drop)]
+#[derive(Clone, Copy)]
 pub enum Mark {
     Any,
     Bit16,

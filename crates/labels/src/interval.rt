@@ -4,13 +4,13 @@ ghost use Rattle.labels.specs.Interval.{within, group_interval, label_set};
 
 use files::expr::{Label, high, low};
 
-#[derive(Drop)]
+#[derive(Clone, Copy)]
 pub struct Interval {
     pub low: u16,
     pub high: u16,
 }
 
-#[derive(Drop)]
+#[derive(Clone, Copy)]
 pub struct LabelSet {
     pub interval: Interval,
     pub outside: bool,

@@ -11,7 +11,7 @@ use files::field::{kind, state};
 use files::refuse::{first, refuse};
 
 // Which words a list has.
-#[derive(Drop)]
+#[derive(Clone, Copy)]
 pub enum Listed {
     Calls,
     Answers,

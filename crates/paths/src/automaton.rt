@@ -16,7 +16,7 @@ use files::cursor::{Cursor, Step};
 use groups::table::read_groups;
 
 // Row q of `follow` holds the positions that may come next in state q.
-#[derive(Drop)]
+#[derive(Clone, Copy)]
 pub struct Automaton {
     pub follow: [u16; 16],
     pub accepts: u16,

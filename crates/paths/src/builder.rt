@@ -16,7 +16,7 @@ use files::expr::{ExprWord, read_expr};
 use files::limits::MOST_WAITING;
 use labels::interval::{LabelSet, resolve};
 
-#[derive(Drop)]
+#[derive(Clone, Copy)]
 pub struct Builder {
     pub operands: [Operand; MOST_WAITING],
     pub waiting: usize,

@@ -7,7 +7,7 @@ use super::operand::only;
 use labels::interval::{Interval, LabelSet, holds};
 use sets::states::{lowest, with, without_lowest};
 
-#[derive(Drop)]
+#[derive(Clone, Copy)]
 pub struct Letters {
     pub intervals: [Interval; 16],
     pub positions: u16,

@@ -5,7 +5,7 @@ ghost use Rattle.paths.specs.Operand.{fragment_in};
 
 use sets::states::with;
 
-#[derive(Drop)]
+#[derive(Clone, Copy)]
 pub struct Operand {
     pub null: bool,
     pub begins: u16,

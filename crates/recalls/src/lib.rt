@@ -1,1 +1,2 @@
 // What is promised of the walks beside a recall list and of their checker. Nothing runs here.
+#![tactic(auto)]

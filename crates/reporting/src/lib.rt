@@ -1,2 +1,3 @@
 // The doors and rows of a first reply, written.
+#![tactic(auto)]
 pub mod reporting;

@@ -10,7 +10,7 @@ use files::reply::{is_reach, is_row};
 use sets::states::{has, minus, with};
 
 // The states whose rows are still to come, and whether the row at hand is followed.
-#[derive(Drop)]
+#[derive(Clone, Copy)]
 pub struct Rows {
     pub left: u16,
     pub on: bool,

@@ -18,6 +18,7 @@ span_iff k d x = (to k d, λ h. from k d h.0 h.1)
     to : (k d : ℕ) → Mem x (span k d) → (k ≤ x) × (x < k + d)
     to k (suc d) (here e) = omega arith
     to k (suc d) (there m) = omega (arith, to (suc k) d m)
+    to k zero x'' = elim x'' [ ]
 
     from : (k d : ℕ) → k ≤ x → x < k + d → Mem x (span k d)
     from k zero h l = absurd (omega arith)

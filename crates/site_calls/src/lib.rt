@@ -1,2 +1,3 @@
 // The called pairs of a site's part.
+#![tactic(auto)]
 pub mod called;

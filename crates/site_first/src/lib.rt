@@ -1,2 +1,3 @@
 // A site's first reply, as a call.
+#![tactic(auto)]
 pub mod call;

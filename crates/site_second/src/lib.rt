@@ -1,3 +1,4 @@
 // A site's second reply.
+#![tactic(auto)]
 pub mod call;
 mod search;

@@ -1,1 +1,2 @@
 // Document 01's table: a theorem of the calls' outcomes. Nothing here runs.
+#![tactic(auto)]

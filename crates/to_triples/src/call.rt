@@ -49,7 +49,7 @@ fn write(whole: &[u8], out: &mut [u8]) -> usize
 }
 
 // A number, and the count that the caller gets.
-#[derive(Drop)]
+#[derive(Clone, Copy)]
 pub struct Counted {
     pub number: u32,
     pub count: u32,

@@ -1,4 +1,6 @@
 // The triples of a whole file.
+#![tactic(auto)]
+
 pub mod call;
 mod listing;
 mod say;

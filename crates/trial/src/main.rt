@@ -1,4 +1,5 @@
 // The trial program: asks one question from end to end. Its arguments name the files of the whole, the path and the cut list.
+#![tactic(auto)]
 mod input;
 
 use asking::question::{SLOTS, ask, cut_parts};

@@ -87,6 +87,7 @@ words_small (k ∷ ks) h w (here e) = omega (arith, h k (here refl))
 words_small (k ∷ ks) h w (there (here e)) = omega arith
 words_small (k ∷ ks) h w (there (there (here e))) = omega arith
 words_small (k ∷ ks) h w (there (there (there m))) = words_small ks (λ l i. h l (there i)) w m
+words_small [] h w x'' = elim x'' [ ]
 
 -- Their count: each word after the header is a node's or a triple's, and there is a node
 

@@ -12,7 +12,7 @@ use queries::path::check_path;
 use site_first::call::append;
 
 // What a path comes to by itself: the number that refuses the whole or this path, or 0, and where its reply ends, or one past the limit.
-#[derive(Drop)]
+#[derive(Clone, Copy)]
 pub struct Asked {
     pub number: u32,
     pub end: usize,

@@ -80,6 +80,7 @@ module _ (holds : ℕ → ℕ → Bool) (runs : ℕ → Bool) (body : List ℕ) 
 along_words : (runs : ℕ → Bool) (body ws : List ℕ) (x y : ℕ) → Along runs body x ws y → (w : ℕ) → Mem w ws → Mem w body
 along_words runs body (v ∷ ws) x y a w (here e) = subst (λ v. Mem v body) (sym e) (edge_of body x v a.0).0
 along_words runs body (v ∷ ws) x y a w (there m) = along_words runs body ws (target_of v) y a.2 w m
+along_words runs body [] x y a w x4 = elim x4 [ ]
 
 header_is : (ws : List ℕ) → walk_file ws ≡ suc (length ws) ∷ ws
 header_is ws = let i : 0 * 2 ^ 28 + (0 * 2 ^ 24 + 0 * 2 ^ 20 + suc (length ws)) ≡ suc (length ws) = omega arith in ap (◌∷ ws) i

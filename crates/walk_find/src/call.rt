@@ -33,7 +33,7 @@ use walk_links::links::link;
 use whole_queries::asked::check as check_inputs;
 
 // The number of the checks; and where all passed, the root's position and how many links the walk has.
-#[derive(Drop)]
+#[derive(Clone, Copy)]
 pub struct Verdict {
     pub number: u32,
     pub root: usize,

@@ -1,2 +1,3 @@
 // The walk beside a listed node.
+#![tactic(auto)]
 pub mod call;

@@ -1,2 +1,4 @@
 // A set of states takes one label, by the code's automaton.
+#![tactic(auto)]
+
 pub mod stepping;

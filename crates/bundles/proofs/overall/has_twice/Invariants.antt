@@ -1,0 +1,16 @@
+-- `bundles::overall::has_twice` meets its contract.
+-- Assumes nothing.
+use borrow.Author.Rules.{rules}
+use Prim.Native.Nat.{◌-◌}
+use lib.ListN.{length}
+use Rattle.files.specs.Word.{words}
+use Rattle.files.specs.Bundle.{twice}
+use Rattle.files.proofs.Reading.{fewer}
+use Rattle.bundles.proofs.Repeats.{nodes_of, Repeating, repeating_first, repeating_other, repeating_found, repeating_more, repeating_last}
+use Rattle.bundles.proofs.overall.has_twice.Given as goal
+
+abbrev pub invariant-loop-w : goal.invariant-loop-w
+invariant-loop-w l = Repeating l.k l.bundle l.initial.work (twice (nodes_of l.k (words l.bundle))) l.work l.cur.at
+
+abbrev pub decreases-loop-w : goal.decreases-loop-w
+decreases-loop-w l = length (words l.bundle) - l.cur.at

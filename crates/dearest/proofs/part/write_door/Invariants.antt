@@ -1,0 +1,18 @@
+-- `dearest::part::write_door` meets its contract. Assumes nothing.
+use mathlib.Core.Bool.{true, false}
+use mathlib.Core.List.{[], ◌∷◌}
+use Prim.Native.Nat.{◌+◌, ◌-◌}
+use borrow.Author.Rules.{rules}
+use Rattle.files.specs.Field.{node_word, edge_word}
+use Rattle.files.specs.Limits.{part_words}
+use Rattle.sets.proofs.Spans.{each}
+use Rattle.output.proofs.Writing.{behind}
+use Rattle.output.proofs.Spanning.{Spanning, spanning_first, spanning_word, spanning_last}
+use Rattle.dearest.proofs.Writing.{door_is}
+use Rattle.dearest.proofs.part.write_door.Given as goal
+
+abbrev pub invariant-loop-t : goal.invariant-loop-t
+invariant-loop-t l = Spanning part_words l.initial.out l.initial.count (λ t. edge_word 0 t ∷ []) l.doors (l.doors + l.targets) l.out l.count l.t
+
+abbrev pub decreases-loop-t : goal.decreases-loop-t
+decreases-loop-t l = l.doors + l.targets - l.t

@@ -1,0 +1,23 @@
+-- `enter::walk` meets its contract. The invariant: the words from i to x are edge words, their slots were entered, and the stack holds the
+-- nodes that wait. Assumes nothing.
+use mathlib.Core.Path.{◌≡◌, sym, ◌∙◌}
+use mathlib.Core.Bool.{true}
+use Prim.Native.Nat.{◌≤◌, ◌<◌, ◌-◌}
+use borrow.Author.Rules.{rules}
+use native.Mathlib.Omega.{arith}
+use lib.ListN.{length}
+use Rattle.files.specs.Word.{words}
+use Rattle.files.specs.Limits.{part_words, work_bytes}
+use Rattle.slots.specs.Slots.{edge_at}
+use Rattle.entering.specs.Entering.{Hit, Walked, Waiting}
+use Rattle.slots.proofs.Storing.{roomy_kept}
+use Rattle.entering.proofs.Entering.{walk_none, walk_more, walk_same}
+use Rattle.slots.proofs.Places.{edge_below, edge_no_node}
+use Rattle.entering.proofs.Walking.{Run, run_none, run_more, hit_none, hit_more, hit_all}
+use Rattle.entering.proofs.enter.walk.Given as goal
+
+abbrev pub invariant-loop-work : goal.invariant-loop-work
+invariant-loop-work l = Run (words l.part) l.i l.x × Walked (words l.part) l.outside (Hit (words l.part) l.initial.work l.i l.u l.x) l.initial.work l.work × Waiting (words l.part) l.outside l.work l.top
+
+abbrev pub decreases-loop-work : goal.decreases-loop-work
+decreases-loop-work l = length (words l.part) - l.x

@@ -1,0 +1,16 @@
+-- `files::buffer::clear` meets its contract.
+-- Assumes nothing.
+use borrow.Author.Rules.{rules}
+use Prim.Native.Nat.{◌-◌}
+use lib.ListN.{length}
+use Rattle.files.proofs.Buffers.{Filling, filling_none, filling_more, filling_all}
+use Rattle.files.proofs.buffer.clear.Goals as goal
+
+pub loop-i-init : goal.loop-i-init
+loop-i-init c = filling_none _
+
+pub loop-i-preserved : goal.loop-i-preserved
+loop-i-preserved c = search (filling_more, rules)
+
+pub returns : goal.returns
+returns c = search (filling_all, rules)

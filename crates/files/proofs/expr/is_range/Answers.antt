@@ -1,0 +1,7 @@
+-- `files::expr::is_range` meets its contract.
+-- Assumes nothing.
+use borrow.Author.Rules.{rules}
+use Rattle.files.proofs.expr.is_range.Goals as goal
+
+pub returns : goal.returns
+returns c = cc

@@ -1,0 +1,6 @@
+-- `generator::call::check_bounds` meets its contract. Assumes nothing.
+use borrow.Author.Rules.{rules}
+use Rattle.generator.proofs.call.check_bounds.Goals as goal
+
+pub returns : goal.returns
+returns c = c.refuse.ensures

@@ -1,0 +1,12 @@
+-- `generator::nodes::write_node` meets its contract. Assumes nothing.
+use borrow.Author.Rules.{rules}
+use Rattle.generator.proofs.Writing.{node_written}
+use Rattle.generator.proofs.nodes.write_node.Goals as goal
+
+pub gather-g-requires : goal.gather-g-requires
+gather-g-requires c = (c.requires.0, search rules)
+
+pub returns : goal.returns
+returns c =
+    let a = c.args in
+    node_written a.nodes a.edges a.x a.state _ _ c.gather-g.ensures c.node_word.ensures (search rules) c.push-count.ensures c.write_words-all.ensures

@@ -1,0 +1,12 @@
+-- `generator::nodes::write_nodes` meets its contract. Assumes nothing.
+use Prim.Native.Nat.{◌-◌}
+use native.Mathlib.Omega.{arith}
+use borrow.Author.Rules.{rules}
+use Rattle.generator.proofs.Writing.{Noding, noding_none, noding_more, noding_last}
+use Rattle.generator.proofs.nodes.write_nodes.Given as goal
+
+abbrev pub invariant-loop-x : goal.invariant-loop-x
+invariant-loop-x l = Noding l.nodes l.edges l.state l.initial.out l.start l.out l.count l.s l.x
+
+abbrev pub decreases-loop-x : goal.decreases-loop-x
+decreases-loop-x l = l.nodes - l.x

@@ -1,0 +1,20 @@
+-- `generator::nodes::write_words` meets its contract. Assumes nothing.
+use mathlib.Core.List.{[], ◌∷◌}
+use Prim.Native.Nat.{◌-◌}
+use borrow.Author.Rules.{rules}
+use lib.ListN.{get_or}
+use Rattle.files.specs.Limits.{part_words}
+use Rattle.output.proofs.Spanning.{Spanning, spanning_first, spanning_more}
+use Rattle.generator.proofs.Writing.{front_written}
+use Rattle.generator.proofs.nodes.write_words.Goals as goal
+
+pub loop-i-init : goal.loop-i-init
+loop-i-init c = spanning_first (search rules)
+
+pub loop-i-preserved : goal.loop-i-preserved
+loop-i-preserved c =
+    spanning_more c.loop-i.invariant c.loop-i-test.true (search rules) c.push-count.ensures
+
+pub returns : goal.returns
+returns c =
+    front_written c.args.words.now c.args.n c.requires.0 c.loop-i.invariant c.loop-i-test.false

@@ -1,0 +1,13 @@
+-- `kinds::count::is_of_kind` meets its contract.
+-- Assumes nothing.
+use borrow.Author.Rules.{rules}
+use Rattle.kinds.proofs.count.is_of_kind.Goals as goal
+
+pub returns-in-Any : goal.returns-in-Any
+returns-in-Any c = cc
+
+pub returns-in-Bit16 : goal.returns-in-Bit16
+returns-in-Bit16 c = cc
+
+pub returns-in-Bit17 : goal.returns-in-Bit17
+returns-in-Bit17 c = cc

@@ -1,0 +1,7 @@
+-- `lists::ascending::check_call` meets its contract.
+-- Assumes nothing.
+use borrow.Author.Rules.{rules}
+use Rattle.lists.proofs.ascending.check_call.Goals as goal
+
+pub returns : goal.returns
+returns c = cc

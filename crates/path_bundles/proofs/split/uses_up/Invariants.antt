@@ -1,0 +1,13 @@
+-- `path_bundles::split::uses_up` meets its contract. Assumes nothing.
+use borrow.Author.Rules.{rules}
+use Prim.Native.Nat.{◌-◌}
+use lib.ListN.{length}
+use Rattle.path_bundles.specs.Split.{uses_up}
+use Rattle.path_bundles.proofs.Places.{Using, using_first, using_none, using_wrong, using_fits, using_less, using_more, using_last}
+use Rattle.path_bundles.proofs.split.uses_up.Given as goal
+
+abbrev pub invariant-loop-at : goal.invariant-loop-at
+invariant-loop-at l = Using l.bundle (uses_up l.most l.bundle) l.at l.left
+
+abbrev pub decreases-loop-at : goal.decreases-loop-at
+decreases-loop-at l = length l.bundle - l.at

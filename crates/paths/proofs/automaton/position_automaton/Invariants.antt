@@ -1,0 +1,16 @@
+-- `automaton::position_automaton` meets its contract. The invariant: the words that are left make of what is built the automaton of the whole
+-- path. Assumes nothing.
+use Prim.Native.Nat.{◌-◌}
+use borrow.Author.Rules.{rules}
+use lib.ListN.{length}
+use Rattle.files.specs.Word.{words}
+use Rattle.files.proofs.Reading.{fewer}
+use Rattle.groups.proofs.Grouping.{value_ranges}
+use Rattle.paths.proofs.Words.{Reading, reading_first, reading_right, reading_applicable, reading_more, reading_last, by_value}
+use Rattle.paths.proofs.automaton.position_automaton.Given as goal
+
+abbrev pub invariant-loop-w : goal.invariant-loop-w
+invariant-loop-w l = Reading l.g l.path l.cur.at l.b
+
+abbrev pub decreases-loop-w : goal.decreases-loop-w
+decreases-loop-w l = length (words l.path) - l.cur.at

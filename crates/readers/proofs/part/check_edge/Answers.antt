@@ -1,0 +1,7 @@
+-- `readers::part::check_edge` meets its contract.
+-- Assumes nothing.
+use borrow.Author.Rules.{rules}
+use Rattle.readers.proofs.part.check_edge.Goals as goal
+
+pub returns : goal.returns
+returns c = cc

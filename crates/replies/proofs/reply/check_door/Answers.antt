@@ -1,0 +1,7 @@
+-- `replies::reply::check_door` meets its contract.
+-- Assumes nothing.
+use borrow.Author.Rules.{rules}
+use Rattle.replies.proofs.reply.check_door.Goals as goal
+
+pub returns : goal.returns
+returns c = cc

@@ -1,0 +1,17 @@
+-- `replies::reply::check_reply` meets its contract.
+-- Assumes nothing.
+use borrow.Author.Rules.{rules}
+use Prim.Native.Nat.{◌-◌}
+use lib.ListN.{length, get_or, drop}
+use Rattle.files.specs.Word.{words}
+use Rattle.files.specs.Reply.{word_check, next, end_check, reply_check}
+use Rattle.files.proofs.Reading.{fewer}
+use Rattle.files.proofs.Scans.{Scanning, scanning_refused, scanning_more, scanning_last}
+use Rattle.files.proofs.Replies.{reply_first}
+use Rattle.replies.proofs.reply.check_reply.Given as goal
+
+abbrev pub invariant-loop-w : goal.invariant-loop-w
+invariant-loop-w l = Scanning (word_check l.n) next end_check l.file (reply_check (get_or (words l.file) 0 0) (drop 1 (words l.file))) l.st l.cur.at
+
+abbrev pub decreases-loop-w : goal.decreases-loop-w
+decreases-loop-w l = length (words l.file) - l.cur.at

@@ -1,0 +1,8 @@
+-- `position::number_at` meets its contract. Assumes nothing.
+use borrow.Author.Rules.{rules}
+use Rattle.slots.specs.Slots.{number}
+use Rattle.slots.proofs.position.number_at.Goals as goal
+
+pub returns : goal.returns
+unfolding number
+returns c = cc

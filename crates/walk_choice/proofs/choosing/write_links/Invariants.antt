@@ -1,0 +1,12 @@
+-- `walk_choice::choosing::write_links` meets its contract. Assumes nothing.
+use borrow.Author.Rules.{rules}
+use native.Mathlib.Omega.{arith}
+use Rattle.files.specs.Word.{words}
+use Rattle.walk_choice.proofs.Picking.{Found, found_edge, Writings, writing_none, writing_last, writing_stop, states_move, writing_more}
+use Rattle.walk_choice.proofs.choosing.write_links.Given as goal
+
+abbrev pub invariant-loop-left : goal.invariant-loop-left
+invariant-loop-left l = Writings (words l.whole) l.a l.work l.root l.d l.initial.out l.start l.out l.n l.i l.s l.left
+
+abbrev pub decreases-loop-left : goal.decreases-loop-left
+decreases-loop-left l = l.left

@@ -1,0 +1,38 @@
+-- `rounds::round` meets its contract. The invariant: the first k nodes of the list that is read are visited. Assumes nothing.
+use borrow.Author.Rules.{rules}
+use Prim.Native.Nat.{◌-◌}
+use Rattle.files.specs.Word.{words}
+use Rattle.walk_distances.proofs.Passing.{Rounding, rounding_first, rounding_ready, rounding_node, rounding_room, rounding_next, rounding_last}
+use Rattle.walk_distances.proofs.rounds.round.Goals as goal
+
+pub loop-k-init : goal.loop-k-init
+loop-k-init c =
+    rounding_first (words c.args.whole.now) c.args.a c.args.from c.args.to c.args.v c.args.work.now c.args.out.now c.requires.by_index_2
+
+pub get16-i-requires : goal.get16-i-requires
+get16-i-requires c =
+    rounding_room c.requires.ready.0 c.requires.ready.1 c.requires.ready.2 c.requires.ready.3 c.requires.ready.4 c.requires.by_index c.loop-k.invariant c.loop-k-test.true
+
+pub visit-top-requires : goal.visit-top-requires
+visit-top-requires c =
+    (
+      (
+        rounding_ready c.requires.ready.0 c.requires.ready.1 c.requires.ready.2 c.requires.ready.3 c.requires.ready.4 c.requires.by_index c.loop-k.invariant,
+        c.requires.ready.2,
+        c.loop-k.invariant.waiting,
+        c.requires.ready.4,
+      ),
+      rounding_node c.requires.ready.0 c.requires.ready.1 c.requires.ready.2 c.requires.ready.3 c.requires.ready.4 c.requires.by_index c.loop-k.invariant c.loop-k-test.true c.get16-i.ensures,
+    )
+
+pub loop-k-preserved : goal.loop-k-preserved
+loop-k-preserved c =
+    rounding_next c.requires.ready.0 c.requires.ready.1 c.requires.ready.2 c.requires.ready.3 c.requires.ready.4 c.requires.by_index c.loop-k.invariant c.loop-k-test.true c.get16-i.ensures
+    c.visit-top.ensures.by_index c.visit-top.ensures.written c.visit-top.ensures.waiting
+
+pub returns : goal.returns
+returns c =
+    (
+      rounding_last c.requires.ready.0 c.requires.ready.1 c.requires.ready.2 c.requires.ready.3 c.requires.ready.4 c.requires.by_index c.loop-k.invariant c.loop-k-test.false,
+      (c.loop-k.invariant.written, c.loop-k.invariant.waiting),
+    )

@@ -1,0 +1,13 @@
+-- `rounds::rounds` meets its contract. The invariant: the rounds up to v are done, and the list has the nodes with the number v. Assumes nothing.
+use Prim.Native.Nat.{◌+◌, ◌-◌, ◌≤◌}
+use native.Mathlib.Omega.{arith}
+use Rattle.files.specs.Word.{words}
+use Rattle.walk_distances.proofs.Backward.{node_room}
+use Rattle.walk_distances.proofs.Measuring.{Going, other_list, going_first, going_last, going_new, going_list, going_bound, going_next}
+use Rattle.walk_distances.proofs.rounds.rounds.Given as goal
+
+abbrev pub invariant-loop-count : goal.invariant-loop-count
+invariant-loop-count l = Going (words l.whole) l.a l.initial.work l.work l.initial.out l.out l.from l.count l.v
+
+abbrev pub decreases-loop-count : goal.decreases-loop-count
+decreases-loop-count l = 16387 - l.v

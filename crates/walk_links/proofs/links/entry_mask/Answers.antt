@@ -1,0 +1,13 @@
+-- `links::entry_mask` meets its contract. Assumes nothing.
+use mathlib.Core.Path.{sym, ◌∙◌}
+use borrow.Author.Rules.{rules}
+use Rattle.sets.proofs.StateSets.{has_empty}
+use Rattle.walk_links.proofs.links.entry_mask.Goals as goal
+
+pub returns-then-is_stopped : goal.returns-then-is_stopped
+returns-then-is_stopped c p = let stops = sym c.is_stopped.ensures ∙ c.if-is_stopped.true in rw stops (has_empty p)
+
+pub returns : goal.returns
+returns c p =
+    let runs = sym c.is_stopped.ensures ∙ c.if-is_stopped.false in
+    rw (runs, ← c.word_at.ensures, ← c.label.ensures) (c.mask.ensures p)

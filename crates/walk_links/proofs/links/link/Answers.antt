@@ -1,0 +1,54 @@
+-- `links::link` meets its contract. The invariant: the edge words before x have their rows. Assumes nothing.
+use mathlib.Core.Path.{◌≡◌, refl, ◌∙◌}
+use Prim.Native.Nat.{◌≤◌, ◌-◌}
+use borrow.Author.Rules.{rules}
+use native.Mathlib.Omega.{arith}
+use lib.ListN.{length}
+use Rattle.files.specs.Word.{words}
+use Rattle.files.proofs.Words.{words_length}
+use Rattle.files.proofs.Parts.{whole_part}
+use Rattle.walk_links.specs.Tables.{Measurable, Linking}
+use Rattle.walk_links.proofs.Linking.{linking_none, linked_rows, linked_heads}
+use Rattle.walk_links.proofs.links.link.Goals.{At-loop-x}
+use Rattle.walk_links.proofs.links.link.Goals as goal
+
+measurable : (h : At-loop-x)
+    → Measurable (words h.args.whole.now) h.loop-x.work h.loop-x.out
+measurable h =
+    record {
+      accepted = h.requires.accepted;
+      few = h.requires.few;
+      works = omega (arith, h.requires.works, h.loop-x.invariant.2, h.clear.auto.buf);
+      holds = omega (arith, h.requires.holds, h.loop-x.invariant.3, h.own.auto.work, h.clear-2.auto.buf);
+    }
+
+pub own-requires : goal.own-requires
+own-requires c = (
+  whole_part (words c.args.whole.now) c.requires.accepted,
+  omega (arith, c.requires.few),
+  omega (arith, c.requires.holds, c.clear-2.auto.buf),
+)
+
+-- no edge word has a row
+pub loop-x-init : goal.loop-x-init
+loop-x-init c = (
+  linking_none (words c.args.whole.now) c.args.a (length c.args.work.now) (length c.args.out.now) c.clear.new.buf c.clear-2.new.buf
+      c.own.new.work c.requires.few c.clear.ensures c.clear-2.ensures c.own.ensures.owned c.own.ensures.owners_only,
+  omega arith,
+  refl,
+  refl,
+)
+
+pub link_at-requires : goal.link_at-requires
+link_at-requires c =
+    (measurable (goal.at.link_at-requires c).At-loop-x, c.loop-x.invariant.0, omega (arith, words_length c.args.whole.now, c.loop-x-test.true))
+
+pub loop-x-preserved : goal.loop-x-preserved
+loop-x-preserved c =
+    (c.link_at.ensures, omega (arith, c.loop-x-test.true), c.link_at.auto.work ∙ c.loop-x.invariant.2, c.link_at.auto.out ∙ c.loop-x.invariant.3)
+
+pub returns : goal.returns
+returns c =
+    let e : c.loop-x.x ≡ length (words c.args.whole.now) = omega (arith, words_length c.args.whole.now, c.loop-x-test.false, c.loop-x.invariant.1) in
+    let l = c.loop-x.invariant.0 in
+    (linked_rows l e, linked_heads l e, l.blank)

@@ -1,0 +1,7 @@
+-- `wholes::whole::is_lost` meets its contract.
+-- Assumes nothing.
+use borrow.Author.Rules.{rules}
+use Rattle.wholes.proofs.whole.is_lost.Goals as goal
+
+pub returns : goal.returns
+returns c = cc
