@@ -1,13 +1,15 @@
-// What the calls of a trip hand on. Each file is printed.
+// What the calls of a trip hand on. Each file is printed to `to`.
 ghost use Rattle.std.specs.Prelude.{◌≡◌, ◌≤◌, length};
 ghost use Rattle.asking.specs.Run.{told, said, site_asked, hub_asked};
 
 use crate::file::{Told, tell};
 use bundles::bundle::Trip;
+use std::io::Stdout;
 use trips::calls::{hub_call, site_call};
 
 // A site's reply.
 pub fn site_file(
+    to: Stdout,
     trip: Trip,
     part: &[u8],
     path: &[u8],
@@ -20,15 +22,21 @@ pub fn site_file(
     ensures within { result.end ≤ length out.new }
 {
     let number = site_call(trip, part, path, calls, out, work);
-    tell(number, out)
+    tell(to, number, out)
 }
 
 // The hub's list.
-pub fn hub_file(trip: Trip, bundle: &[u8], out: &mut [u8], work: &mut [u8]) -> Told
+pub fn hub_file(
+    to: Stdout,
+    trip: Trip,
+    bundle: &[u8],
+    out: &mut [u8],
+    work: &mut [u8],
+) -> Told
     ensures is { told result.number result.end out.new
         ≡ said (hub_asked trip (length out.old) (length work.old) bundle.now) }
     ensures within { result.end ≤ length out.new }
 {
     let number = hub_call(trip, bundle, out, work);
-    tell(number, out)
+    tell(to, number, out)
 }

@@ -2,8 +2,9 @@
 ghost use Rattle.std.specs.Prelude.{◌≡◌, ◌≤◌, length};
 ghost use Rattle.asking.specs.Run.{told, handed};
 
-use hex::lines::print_words;
+use hex_lines::lines::print_words;
 use path_bundles::split::file_in;
+use std::io::Stdout;
 
 // A call's or a trip's number and, where it is 0, the bytes of its files at the front of the output.
 #[derive(Clone, Copy)]
@@ -12,8 +13,8 @@ pub struct Told {
     pub end: usize,
 }
 
-// Prints the file that a call left, if it gave 0.
-pub fn tell(number: u32, out: &[u8]) -> Told
+// Prints to `to` the file that a call left, if it gave 0.
+pub fn tell(to: Stdout, number: u32, out: &[u8]) -> Told
     ensures is { told result.number result.end out.now ≡ handed number out.now }
     ensures within { result.end ≤ length out.now }
 {
@@ -24,7 +25,7 @@ pub fn tell(number: u32, out: &[u8]) -> Told
         };
     }
     let file = file_in(out);
-    print_words(file);
+    print_words(to, file);
     Told {
         number: 0,
         end: file.len(),

@@ -9,20 +9,35 @@ use files::limits::REPLY_WORDS;
 use mowqachi::mowqachi_cut;
 use path_bundles::split::file_in;
 use sets::states::{lowest, without_lowest};
+use std::io::Stdout;
 
 // The bytes of an output for a part or a reply.
 const SLOT: usize = 4 * REPLY_WORDS;
 // Room for a reply of each of sixteen sites, wherever the ones before it end.
 pub const SLOTS: usize = 16 * SLOT;
 
-fn cut_part(whole: &[u8], cuts: &[u8], site: u32, out: &mut [u8], work: &mut [u8]) -> u32 {
+fn cut_part(
+    to: Stdout,
+    whole: &[u8],
+    cuts: &[u8],
+    site: u32,
+    out: &mut [u8],
+    work: &mut [u8],
+) -> u32 {
     let number = mowqachi_cut(whole, cuts, site, out, work);
-    tell(number, out);
+    tell(to, number, out);
     number
 }
 
 // Each site's part, at the site's own place, to the first refusal; hands back the number.
-pub fn cut_parts(whole: &[u8], cuts: &[u8], sites: u16, parts: &mut [u8], work: &mut [u8]) -> u32
+pub fn cut_parts(
+    to: Stdout,
+    whole: &[u8],
+    cuts: &[u8],
+    sites: u16,
+    parts: &mut [u8],
+    work: &mut [u8],
+) -> u32
     requires { slots ≤ length parts.old }
     ensures { slots ≤ length parts.new }
 {
@@ -31,7 +46,7 @@ pub fn cut_parts(whole: &[u8], cuts: &[u8], sites: u16, parts: &mut [u8], work: 
         let site = lowest(left);
         let at = site as usize * SLOT;
         let end = at + SLOT;
-        let number = cut_part(whole, cuts, site, &mut parts[at..end], work);
+        let number = cut_part(to, whole, cuts, site, &mut parts[at..end], work);
         if number != 0 {
             return number;
         }
@@ -52,6 +67,7 @@ fn part_of(parts: &[u8], site: u32) -> &[u8]
 
 // The replies of a trip, one after another.
 fn gather(
+    to: Stdout,
     trip: Trip,
     path: &[u8],
     calls: &[u8],
@@ -70,7 +86,7 @@ fn gather(
     while 0 < left {
         let next = end + SLOT;
         let part = part_of(parts, lowest(left));
-        let told = site_file(trip, part, path, calls, &mut bundle[end..next], work);
+        let told = site_file(to, trip, part, path, calls, &mut bundle[end..next], work);
         if told.number != 0 {
             return Told {
                 number: told.number,
@@ -88,6 +104,7 @@ fn gather(
 
 // To the sites and back to the hub. `list` holds the calls at its front, and then what the hub makes of the replies.
 fn round_trip(
+    to: Stdout,
     trip: Trip,
     path: &[u8],
     called: usize,
@@ -103,7 +120,7 @@ fn round_trip(
         (parts_in parts.now sites)) }
     ensures within { result.end ≤ length list.new }
 {
-    let replies = gather(trip, path, &list[..called], sites, parts, bundle, work);
+    let replies = gather(to, trip, path, &list[..called], sites, parts, bundle, work);
     if replies.number != 0 {
         return Told {
             number: replies.number,
@@ -111,11 +128,12 @@ fn round_trip(
         };
     }
     let end = replies.end;
-    hub_file(trip, &bundle[..end], list, work)
+    hub_file(to, trip, &bundle[..end], list, work)
 }
 
 // The question over the parts. `list` holds the call list, and then the final list.
 pub fn ask(
+    to: Stdout,
     path: &[u8],
     sites: u16,
     parts: &[u8],
@@ -128,11 +146,12 @@ pub fn ask(
         ≡ said (answer (rooms (length list.old) (length work.old))
         path.now (parts_in parts.now sites)) }
 {
-    let first = round_trip(Trip::First, path, 0, sites, parts, bundle, list, work);
+    let first = round_trip(to, Trip::First, path, 0, sites, parts, bundle, list, work);
     if first.number != 0 {
         return first;
     }
     round_trip(
+        to,
         Trip::Second,
         path,
         first.end,

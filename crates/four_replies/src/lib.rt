@@ -1,3 +1,4 @@
 // Four paths in one visit, as a call.
 #![tactic(auto)]
+
 pub mod call;

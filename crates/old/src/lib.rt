@@ -1,4 +1,5 @@
 // The old search, over a whole plant.
 #![tactic(auto)]
+
 pub mod call;
 mod search;

@@ -1,3 +1,4 @@
 // The called pairs of a site's part.
 #![tactic(auto)]
+
 pub mod called;

@@ -1,3 +1,4 @@
 // A site's first reply, as a call.
 #![tactic(auto)]
+
 pub mod call;

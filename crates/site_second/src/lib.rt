@@ -1,4 +1,5 @@
 // A site's second reply.
 #![tactic(auto)]
+
 pub mod call;
 mod search;

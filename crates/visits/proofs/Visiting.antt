@@ -33,6 +33,7 @@ use Rattle.visits.specs.Answered.{VisitChecked, SiteRead, SiteReady, answered, a
 -- ---- the checks of the whole
 
 shortest_below : {n : ℕ} (ns : List ℕ) → Mem n ns → shortest ns ≤ n
+shortest_below {n = n} [] m = elim m [ ]
 shortest_below {n} (a ∷ []) (here e) = omega (arith, e)
 shortest_below {n} (a ∷ []) (there m) = elim m [ ]
 shortest_below {n} (a ∷ k ∷ ns) m = by (leb a (shortest (k ∷ ns))) refl (shortest_below (k ∷ ns)) m

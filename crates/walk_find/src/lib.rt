@@ -1,3 +1,4 @@
 // The walk beside a listed node.
 #![tactic(auto)]
+
 pub mod call;

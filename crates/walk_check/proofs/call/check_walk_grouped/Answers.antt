@@ -10,7 +10,7 @@ returns-then-number-ne0 c = search (call_refused, rules)
 pub says_yes-requires : goal.says_yes-requires
 says_yes-requires c =
     let args = c.args in
-    all_read (length args.work-1.now) args.whole.now args.groups.now args.path.now c.check-number.ensures c.if-number-ne0.false
+    all_read (length args.work.now) args.whole.now args.groups.now args.path.now c.check-number.ensures c.if-number-ne0.false
 
 pub returns : goal.returns
 returns c = search (call_said, rules)

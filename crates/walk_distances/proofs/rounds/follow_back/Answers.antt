@@ -16,7 +16,8 @@ get16-requires c = omega (arith, edge_room c.requires.ready.0 c.requires.x_value
 
 pub returns-then-g-eq0 : goal.returns-then-g-eq0
 returns-then-g-eq0 c =
-    back_none c.args.x c.args.f c.get16.result c.requires.ready.0 c.requires.ready.1 c.requires.ready.2 c.requires.ready.3 c.requires.x_value.0 c.requires.x_value.1 c.get16.ensures c.if-g-eq0.true
+    let h =
+    back_none c.args.x c.args.f c.get16.result c.requires.ready.0 c.requires.ready.1 c.requires.ready.2 c.requires.ready.3 c.requires.x_value.0 c.requires.x_value.1 c.get16.ensures c.if-g-eq0.true in record { by_index = h.0; written = h.1.0; waiting = h.1.1 }
 
 pub get16-j-requires : goal.get16-j-requires
 get16-j-requires c = omega (arith, edge_room c.requires.ready.0 c.requires.x_value.0)
@@ -25,25 +26,24 @@ pub preceding-set-requires : goal.preceding-set-requires
 preceding-set-requires c = tt
 
 pub spread-new-requires : goal.spread-new-requires
-spread-new-requires c =
-    (
-      back_small c.args.x c.args.f c.get16.result c.requires.ready.0 c.requires.ready.1 c.requires.ready.2 c.requires.ready.3 c.requires.x_value.0 c.requires.x_value.1 c.get16.ensures
-          c.get16-j.ensures,
-      c.requires.ready.0.measurable.works,
-      omega (arith, c.requires.ready.3),
-    )
+spread-new-requires c = (
+  back_small c.args.x c.args.f c.get16.result c.requires.ready.0 c.requires.ready.1 c.requires.ready.2 c.requires.ready.3 c.requires.x_value.0 c.requires.x_value.1 c.get16.ensures
+      c.get16-j.ensures,
+  c.requires.ready.0.measurable.works,
+  omega (arith, c.requires.ready.3),
+)
 
 pub note-requires : goal.note-requires
-note-requires c =
-    (
-      list_room c.requires.ready.1 c.requires.ready.0.measurable,
-      back_small c.args.x c.args.f c.get16.result c.requires.ready.0 c.requires.ready.1 c.requires.ready.2 c.requires.ready.3 c.requires.x_value.0 c.requires.x_value.1 c.get16.ensures
-          c.get16-j.ensures,
-      back_room c.args.x c.args.f c.get16.result c.requires.ready.0 c.requires.ready.1 c.requires.ready.2 c.requires.ready.3 c.requires.x_value.0 c.requires.x_value.1 c.get16.ensures
-          c.get16-j.ensures c.preceding-set.result c.preceding-set.ensures c.spread-new.ensures.hit c.spread-new.ensures.value,
-    )
+note-requires c = (
+  list_room c.requires.ready.1 c.requires.ready.0.measurable,
+  back_small c.args.x c.args.f c.get16.result c.requires.ready.0 c.requires.ready.1 c.requires.ready.2 c.requires.ready.3 c.requires.x_value.0 c.requires.x_value.1 c.get16.ensures
+      c.get16-j.ensures,
+  back_room c.args.x c.args.f c.get16.result c.requires.ready.0 c.requires.ready.1 c.requires.ready.2 c.requires.ready.3 c.requires.x_value.0 c.requires.x_value.1 c.get16.ensures
+      c.get16-j.ensures c.preceding-set.result c.preceding-set.ensures c.spread-new.ensures.hit c.spread-new.ensures.value,
+)
 
 pub returns : goal.returns
 returns c =
+    let h =
     back_some c.args.x c.args.f c.get16.result c.requires.ready.0 c.requires.ready.1 c.requires.ready.2 c.requires.ready.3 c.requires.x_value.0 c.requires.x_value.1 c.get16.ensures
-    c.get16-j.ensures c.preceding-set.result c.preceding-set.ensures c.spread-new.ensures.hit c.spread-new.ensures.value c.note.ensures.0 c.note.ensures.1
+    c.get16-j.ensures c.preceding-set.result c.preceding-set.ensures c.spread-new.ensures.hit c.spread-new.ensures.value c.note.ensures.0 c.note.ensures.1 in record { by_index = h.0; written = h.1.0; waiting = h.1.1 }

@@ -19,18 +19,11 @@ note-height-requires c = (list_room (inl refl) c.requires.ready.0.measurable, (n
 pub rounds-requires : goal.rounds-requires
 rounds-requires c =
     let ready = c.requires.ready.0 in
-    let blank = c.requires.ready.1 in (
-      (first_ready ready blank c.requires.i_value.0 c.spread-new.ensures.hit c.spread-new.ensures.value c.note-height.ensures.0 c.note-height.ensures.1, c.requires.i_value.1, c.requires.ready.2),
-      (
-        (number (words c.args.whole.now) c.args.i, first_round ready blank c.requires.i_value.0 c.spread-new.ensures.hit c.spread-new.ensures.value c.note-height.ensures.0 c.note-height.ensures.1),
-        first_waiting ready blank c.requires.i_value.0 c.spread-new.ensures.hit c.spread-new.ensures.value c.note-height.ensures.0 c.note-height.ensures.1,
-      ),
-    )
+    let blank = c.requires.ready.1 in record { ready = (first_ready ready blank c.requires.i_value.0 c.spread-new.ensures.hit c.spread-new.ensures.value c.note-height.ensures.0 c.note-height.ensures.1, c.requires.i_value.1, c.requires.ready.2); by_index = (number (words c.args.whole.now) c.args.i, first_round ready blank c.requires.i_value.0 c.spread-new.ensures.hit c.spread-new.ensures.value c.note-height.ensures.0 c.note-height.ensures.1); waiting = first_waiting ready blank c.requires.i_value.0 c.spread-new.ensures.hit c.spread-new.ensures.value c.note-height.ensures.0 c.note-height.ensures.1 }
 
 pub returns : goal.returns
-returns c =
-    (
-      λ e k. c.rounds.ensures.by_index_2 (number (words c.args.whole.now) c.args.i) e k
-          (first_round c.requires.ready.0 c.requires.ready.1 c.requires.i_value.0 c.spread-new.ensures.hit c.spread-new.ensures.value c.note-height.ensures.0 c.note-height.ensures.1 e k),
-      c.rounds.ensures.edged,
-    )
+returns c = record {
+  reached = (λ e k. c.rounds.ensures.by_index_2 (number (words c.args.whole.now) c.args.i) e k
+      (first_round c.requires.ready.0 c.requires.ready.1 c.requires.i_value.0 c.spread-new.ensures.hit c.spread-new.ensures.value c.note-height.ensures.0 c.note-height.ensures.1 e k));
+  edged = c.rounds.ensures.edged;
+}

@@ -14,16 +14,15 @@ get16-i-requires c =
     rounding_room c.requires.ready.0 c.requires.ready.1 c.requires.ready.2 c.requires.ready.3 c.requires.ready.4 c.requires.by_index c.loop-k.invariant c.loop-k-test.true
 
 pub visit-top-requires : goal.visit-top-requires
-visit-top-requires c =
-    (
-      (
-        rounding_ready c.requires.ready.0 c.requires.ready.1 c.requires.ready.2 c.requires.ready.3 c.requires.ready.4 c.requires.by_index c.loop-k.invariant,
-        c.requires.ready.2,
-        c.loop-k.invariant.waiting,
-        c.requires.ready.4,
-      ),
-      rounding_node c.requires.ready.0 c.requires.ready.1 c.requires.ready.2 c.requires.ready.3 c.requires.ready.4 c.requires.by_index c.loop-k.invariant c.loop-k-test.true c.get16-i.ensures,
-    )
+visit-top-requires c = record {
+  ready = (
+    rounding_ready c.requires.ready.0 c.requires.ready.1 c.requires.ready.2 c.requires.ready.3 c.requires.ready.4 c.requires.by_index c.loop-k.invariant,
+    c.requires.ready.2,
+    c.loop-k.invariant.waiting,
+    c.requires.ready.4,
+  );
+  i_value = rounding_node c.requires.ready.0 c.requires.ready.1 c.requires.ready.2 c.requires.ready.3 c.requires.ready.4 c.requires.by_index c.loop-k.invariant c.loop-k-test.true c.get16-i.ensures;
+}
 
 pub loop-k-preserved : goal.loop-k-preserved
 loop-k-preserved c =
@@ -31,8 +30,4 @@ loop-k-preserved c =
     c.visit-top.ensures.by_index c.visit-top.ensures.written c.visit-top.ensures.waiting
 
 pub returns : goal.returns
-returns c =
-    (
-      rounding_last c.requires.ready.0 c.requires.ready.1 c.requires.ready.2 c.requires.ready.3 c.requires.ready.4 c.requires.by_index c.loop-k.invariant c.loop-k-test.false,
-      (c.loop-k.invariant.written, c.loop-k.invariant.waiting),
-    )
+returns c = record { turned = rounding_last c.requires.ready.0 c.requires.ready.1 c.requires.ready.2 c.requires.ready.3 c.requires.ready.4 c.requires.by_index c.loop-k.invariant c.loop-k-test.false; written = c.loop-k.invariant.written; waiting = c.loop-k.invariant.waiting }

@@ -29,7 +29,7 @@ shape_of-out-then-r-count c = c.loop-count.invariant.long_out
 
 pub returns-then-r-count : goal.returns-then-r-count
 returns-then-r-count c =
-    (going_last c.loop-count.invariant c.args.root c.requires.ready.1 c.get16-r.ensures c.if-r-count.true, c.loop-count.invariant.ready.edged)
+    record { by_index_2 = going_last c.loop-count.invariant c.args.root c.requires.ready.1 c.get16-r.ensures c.if-r-count.true; edged = c.loop-count.invariant.ready.edged }
 
 pub overflow_add-v : goal.overflow_add-v
 overflow_add-v c = omega (arith, bound (goal.at.overflow_add-v c).Else-r-count)
@@ -40,10 +40,7 @@ other-to-requires c = tt
 pub round-count-requires : goal.round-count-requires
 round-count-requires c =
     let g = c.loop-count.invariant in
-    let other = other_list g.list c.other-to.ensures in (
-      (g.ready, search (g.list, other.0), search (g.list, other.0), other.1, omega (arith, g.is)),
-      (going_list g, going_new g c.requires.ready.2 c.requires.by_index),
-    )
+    let other = other_list g.list c.other-to.ensures in record { ready = (g.ready, search (g.list, other.0), search (g.list, other.0), other.1, omega (arith, g.is)); by_index = going_list g; by_index_2 = going_new g c.requires.ready.2 c.requires.by_index }
 
 pub loop-count-smaller : goal.loop-count-smaller
 loop-count-smaller c = omega (arith, bound (goal.at.loop-count-smaller c).Else-r-count)

@@ -30,13 +30,13 @@ loop-x-init c = visiting_first c.requires.ready.0 c.requires.ready.1 c.requires.
 
 pub follow_back-top-requires : goal.follow_back-top-requires
 follow_back-top-requires c =
-    let ready = visiting_ready c.requires.ready.0 c.requires.ready.1 c.requires.i_value c.loop-x.invariant in (
-      (ready, c.requires.ready.1, c.loop-x.invariant.waiting, c.requires.ready.3),
-      (
+    let ready = visiting_ready c.requires.ready.0 c.requires.ready.1 c.requires.i_value c.loop-x.invariant in record {
+      ready = (ready, c.requires.ready.1, c.loop-x.invariant.waiting, c.requires.ready.3);
+      x_value = (
         (c.loop-x.invariant.next c.loop-x-test.true).0,
         visiting_known c.requires.ready.0 c.requires.ready.1 c.requires.i_value c.loop-x.invariant c.having-f.result c.having-f.ensures c.requires.ready.3 c.loop-x-test.true,
-      ),
-    )
+      );
+    }
 
 pub overflow_mul-x : goal.overflow_mul-x
 overflow_mul-x c = omega (arith, row (goal.at.overflow_mul-x c).After-follow_back-top)
@@ -58,4 +58,4 @@ loop-x-preserved c =
 
 pub returns : goal.returns
 returns c =
-    (visiting_last c.requires.ready.0 c.requires.ready.1 c.requires.i_value c.loop-x.invariant c.loop-x-test.false, (c.loop-x.invariant.written, c.loop-x.invariant.waiting))
+    record { by_index = visiting_last c.requires.ready.0 c.requires.ready.1 c.requires.i_value c.loop-x.invariant c.loop-x-test.false; written = c.loop-x.invariant.written; waiting = c.loop-x.invariant.waiting }

@@ -1,0 +1,27 @@
+-- `desks::turns::lay` meets its contract. Assumes nothing.
+use borrow.Author.Rules.{rules}
+use native.Mathlib.Omega.{arith}
+use Rattle.desks.proofs.Turning.{file_asked, asked_small, next_here, lays_in, lays_out}
+use Rattle.desks.proofs.turns.lay.Goals as goal
+
+pub settle_desk-requires : goal.settle_desk-requires
+settle_desk-requires c =
+    let may = c.requires.1 in
+    (asked_small c.ask-a.ensures c.requires.0.small, omega (arith, next_here c.args.s.next c.args.i _ c.if-s-i.true, may.turn))
+
+pub returns-then-s-i : goal.returns-then-s-i
+returns-then-s-i c =
+    let a = c.args in
+    lays_in a.i a.come a.s (file_asked a.i a.paths.now c.file_at.ensures c.ask-a.ensures) c.if-s-i.true c.settle_desk.ensures
+
+pub overflow_add-r : goal.overflow_add-r
+overflow_add-r c =
+    let k = c.short_part.ensures.few in
+    let may = c.requires.1 in
+    record { fits = omega (arith, k, may.few, may.turn) }
+
+pub returns : goal.returns
+returns c =
+    let a = c.args in
+    lays_out a.i a.come a.s (file_asked a.i a.paths.now c.file_at.ensures c.ask-a.ensures) c.if-s-i.false
+    c.erase.ensures c.ask-a.auto.out c.short_part.ensures.is

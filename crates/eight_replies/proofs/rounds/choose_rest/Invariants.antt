@@ -1,0 +1,16 @@
+-- `eight_replies::rounds::choose_rest` meets its contract. Assumes nothing.
+use borrow.Author.Rules.{rules}
+use Prim.Native.Nat.{◌-◌}
+use native.Mathlib.Omega.{arith}
+use mathlib.Core.Path.{◌≡◌, refl}
+use lib.ListN.{length}
+use Rattle.desks.specs.Owns.{owns}
+use Rattle.eight_replies.specs.Rounds.{Stood}
+use Rattle.eight_replies.proofs.Laying.{same_asking, may_choose, stood_more, stood_last}
+use Rattle.eight_replies.proofs.rounds.choose_rest.Given as goal
+
+abbrev pub invariant-loop-s : goal.invariant-loop-s
+invariant-loop-s l = Stood (length l.initial.out) (owns l.whole l.part l.groups 8 l.paths) l.s l.out × (length l.out ≡ length l.initial.out) × (length l.work ≡ length l.initial.work)
+
+abbrev pub decreases-loop-s : goal.decreases-loop-s
+decreases-loop-s l = 8 - l.s.next

@@ -1,0 +1,33 @@
+-- `eight_replies::rounds::lay_all` meets its contract. Assumes nothing.
+use borrow.Author.Rules.{rules}
+use Prim.Native.Nat.{◌-◌}
+use mathlib.Core.Path.{◌≡◌, refl, ◌∙◌}
+use lib.ListN.{length}
+use Rattle.desks.specs.Owns.{owns}
+use Rattle.eight_replies.proofs.Laying.{same_asking, files_few, Laying, laying_first, may_lay, laying_more, laying_last}
+use Rattle.eight_replies.proofs.rounds.lay_all.Goals as goal
+
+pub loop-i-init : goal.loop-i-init
+loop-i-init c =
+    (laying_first _ _ refl refl refl refl (files_few c.args.paths.now c.count_files-desks.ensures) c.requires.1, refl, refl)
+
+pub lay-s-requires : goal.lay-s-requires
+lay-s-requires c =
+    let a = c.args in
+    let (l, out, work) = c.loop-i.invariant in (
+      same_asking c.requires.0 out work,
+      may_lay a.whole a.part.now a.groups.now a.paths.now l c.loop-i-test.true c.to_come-come.ensures
+          (files_few a.paths.now c.count_files-desks.ensures) out,
+    )
+
+pub loop-i-preserved : goal.loop-i-preserved
+loop-i-preserved c =
+    let a = c.args in
+    let (l, out, work) = c.loop-i.invariant in
+    let turned = rw (out, c.to_come-come.ensures) at c.lay-s.ensures in
+    (laying_more a.whole a.part.now a.groups.now a.paths.now l c.loop-i-test.true c.count_files-desks.ensures c.requires.0.ready turned, c.lay-s.auto.out ∙ out, c.lay-s.auto.work ∙ work)
+
+pub returns : goal.returns
+returns c =
+    let a = c.args in
+    laying_last a.whole a.part.now a.groups.now a.paths.now c.loop-i.invariant.0 c.loop-i-test.false c.count_files-desks.ensures

@@ -1,0 +1,14 @@
+-- `eight_replies::rounds::lay_all` meets its contract. Assumes nothing.
+use borrow.Author.Rules.{rules}
+use Prim.Native.Nat.{◌-◌}
+use mathlib.Core.Path.{◌≡◌, refl, ◌∙◌}
+use lib.ListN.{length}
+use Rattle.desks.specs.Owns.{owns}
+use Rattle.eight_replies.proofs.Laying.{same_asking, files_few, Laying, laying_first, may_lay, laying_more, laying_last}
+use Rattle.eight_replies.proofs.rounds.lay_all.Given as goal
+
+abbrev pub invariant-loop-i : goal.invariant-loop-i
+invariant-loop-i l = Laying (length l.initial.out) (owns l.whole l.part l.groups 8 l.paths) l.desks l.i l.s l.out × (length l.out ≡ length l.initial.out) × (length l.work ≡ length l.initial.work)
+
+abbrev pub decreases-loop-i : goal.decreases-loop-i
+decreases-loop-i l = 8 - l.i

@@ -1,0 +1,29 @@
+-- `hub_calls::call::find` meets its contract. Assumes nothing.
+use borrow.Author.Rules.{rules}
+use native.Mathlib.Omega.{arith}
+use lib.ListN.{length}
+use Rattle.files.specs.Word.{words}
+use Rattle.files.proofs.Buffers.{zeros_all}
+use Rattle.hub_calls.proofs.Homing.{one_root, roomy, cleared, stray_met, stray_none, listable}
+use Rattle.hub_calls.proofs.call.find.Goals as goal
+
+pub index_doors-doors-requires : goal.index_doors-doors-requires
+index_doors-doors-requires c =
+    let cleared-out = c in
+    let start = cleared-out in
+    let room = start.requires.room_for.0 in
+    record { bundle_len_bound = (start.requires.room_for.1, search (room.holds, rules), search (room.works, rules)); out_value = search (zeros_all, rules); doors_once = (one_root _ start.requires.bundle_value).0 }
+
+pub search-requires : goal.search-requires
+search-requires c =
+    let indexed = c.index_doors-doors.ensures.indexed in
+    let placed = c.index_doors-doors.ensures.placed in
+    let ws = words c.args.bundle.now in
+    record { indexed = (indexed, roomy c.args.bundle.now c.requires.room_for.1 (search (c.requires.room_for.0.works, rules)) indexed); doors_once = one_root ws c.requires.bundle_value; by_index = cleared ws (length c.args.work.now) c.clear-2.ensures placed }
+
+pub returns-then-search : goal.returns-then-search
+returns-then-search c = record { number_value = stray_met _ c.search.ensures c.if-search.true; listable = (λ e. absurd (omega (arith, e))) }
+
+pub returns : goal.returns
+returns c =
+    record { number_value = stray_none _ c.search.ensures c.if-search.false; listable = (λ e. listable c.index_doors-doors.ensures.indexed c.search.ensures c.if-search.false) }

@@ -1,0 +1,7 @@
+-- `hub_search::follow::door_word` meets its contract.
+-- Assumes nothing.
+use borrow.Author.Rules.{rules}
+use Rattle.hub_search.proofs.follow.door_word.Goals as goal
+
+pub returns : goal.returns
+returns c = rw (← c.get16-j.ensures) c.word_at.ensures

@@ -1,0 +1,6 @@
+-- `reporting::reporting::door_of` meets its contract. Assumes nothing.
+use borrow.Author.Rules.{rules}
+use Rattle.reporting.proofs.reporting.door_of.Goals as goal
+
+pub returns : goal.returns
+returns c = cc

@@ -1,0 +1,14 @@
+-- `site_calls::called::check_doors` meets its contract. Assumes nothing.
+use borrow.Author.Rules.{rules}
+use Prim.Native.Nat.{◌-◌}
+use native.Mathlib.Omega.{arith}
+use Rattle.files.specs.Word.{words}
+use Rattle.files.proofs.Words.{words_length}
+use Rattle.site_calls.proofs.Calling.{Checking, checking_none, checking_more, checking_refused, checking_all}
+use Rattle.site_calls.proofs.called.check_doors.Given as goal
+
+abbrev pub invariant-loop-k : goal.invariant-loop-k
+invariant-loop-k l = Checking (words l.part) (words l.calls) l.at l.k
+
+abbrev pub decreases-loop-k : goal.decreases-loop-k
+decreases-loop-k l = l.n - l.k

@@ -1,0 +1,8 @@
+-- `site_calls::called::shut` meets its contract. Assumes nothing.
+use borrow.Author.Rules.{rules}
+use Rattle.site_calls.specs.Called.{shut_at}
+use Rattle.site_calls.proofs.called.shut.Goals as goal
+
+pub returns : goal.returns
+unfolding shut_at
+returns c = cc
