@@ -26,13 +26,7 @@ pub fn site_file(
 }
 
 // The hub's list.
-pub fn hub_file(
-    to: Stdout,
-    trip: Trip,
-    bundle: &[u8],
-    out: &mut [u8],
-    work: &mut [u8],
-) -> Told
+pub fn hub_file(to: Stdout, trip: Trip, bundle: &[u8], out: &mut [u8], work: &mut [u8]) -> Told
     ensures is { told result.number result.end out.new
         ≡ said (hub_asked trip (length out.old) (length work.old) bundle.now) }
     ensures within { result.end ≤ length out.new }

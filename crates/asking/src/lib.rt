@@ -1,5 +1,6 @@
 // The calls of one question one after another, on lent buffers. Each file is printed as it comes, and the first refusal ends it.
 #![tactic(auto)]
+
 mod calls;
 pub mod file;
 pub mod question;

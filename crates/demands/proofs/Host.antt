@@ -63,6 +63,7 @@ each_going ask (p ∷ parts) files e part (there m) =
     let (f, i, k) = bind_going (ask p) _ files e in
     let (fs, j, l) = bind_going (each ask parts) _ files k in
     each_going ask parts fs j part m
+each_going ask [] files e part x'' = elim x'' [ ]
 
 host_zero : (by : Call) (k : ℕ) (output f : List ℕ) → host by k output ≡ going f → k ≡ 0
 host_zero by zero output f e = refl

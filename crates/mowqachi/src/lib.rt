@@ -1,6 +1,7 @@
 // The calls, under the names that the C host uses. Each has no precondition, and its contract is one equation: what it leaves in number,
 // outputs, lent number and working buffer is what the definition of document 01 or 02 gives. Demand 3 (demands/proofs/Demand.antt) is about these outcomes.
 #![tactic(auto)]
+
 ghost use Rattle.std.specs.Prelude.{◌≡◌, [], ◌∷◌, length};
 ghost use Rattle.files.specs.Outcome.{left, leaves, left_lent, leaves_lent};
 ghost use Rattle.path_bundles.specs.Packed.{left_several};

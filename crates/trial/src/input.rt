@@ -1,5 +1,8 @@
 // The files that the arguments name.
-ghost use Rattle.io.specs.Counts.{IsPrefixLen};
+ghost use Rattle.std.specs.Prelude.{◌≤◌, length, IfOk};
+
+use std::fs::{self, File};
+use std::io::{self, Read};
 
 // Whether a file was read, and how many bytes it put at the front of the buffer.
 #[derive(Clone, Copy)]
@@ -8,50 +11,49 @@ pub struct Input {
     pub bytes: usize,
 }
 
-// Reads to the file's end, or until the buffer is full. Where a read fails, standard error says why.
-fn fill(fd: i32, name: &[u8], buf: &mut [u8]) -> Input
-    ensures { IsPrefixLen result.bytes buf.new }
+// Reads to the file's end, or until the buffer is full.
+fn fill(file: &mut File, buf: &mut [u8]) -> io::Result<usize>
+    ensures { IfOk result (λ n. n ≤ length buf.new) }
 {
     let mut at = 0;
     while at < buf.len() {
-        let got = libc::read(fd, &mut buf[at..]);
-        if got < 0 {
-            os::fail(name);
-            return Input {
-                read: false,
-                bytes: 0,
-            };
-        }
-        let n = io::count(got, &buf[at..]);
+        let n = file.read(&mut buf[at..])?;
         if n == 0 {
-            return Input {
-                read: true,
-                bytes: at,
-            };
+            return Ok(at);
         }
         at += n;
     }
-    Input {
-        read: true,
-        bytes: at,
+    Ok(at)
+}
+
+fn read_file(rt: &HostRuntime, name: &str, buf: &mut [u8]) -> io::Result<usize>
+    ensures { IfOk result (λ n. n ≤ length buf.new) }
+{
+    let mut file = fs::open(rt, name)?;
+    fill(&mut file, buf)
+}
+
+// Says on standard error why a file is not read, in the system's words and without their number.
+fn complain(rt: &HostRuntime, name: &str, error: io::Error) -> io::Result<()> {
+    let text = format!(in rt.alloc(); "{error}")?;
+    match text.split_once(" (os error ") {
+        Some((words, _)) => eprintln!(rt; "{name}: {words}"),
+        None => eprintln!(rt; "{name}: {text}"),
     }
 }
 
-// Reads the file that argument i names. Where it cannot, standard error says why.
-pub fn load(i: usize, buf: &mut [u8]) -> Input
-    ensures { IsPrefixLen result.bytes buf.new }
+// Reads the file of that name. Where it cannot, standard error says why.
+pub fn load(rt: &HostRuntime, name: &str, buf: &mut [u8]) -> io::Result<Input>
+    ensures { IfOk result (λ i. i.bytes ≤ length buf.new) }
 {
-    let mut name = io::buffer();
-    let n = os::arg(i, &mut name);
-    let fd = os::open_read(&name[..n]);
-    if fd < 0 {
-        os::fail(&name[..n]);
-        return Input {
-            read: false,
-            bytes: 0,
-        };
+    match read_file(rt, name, buf) {
+        Ok(bytes) => Ok(Input { read: true, bytes }),
+        Err(error) => {
+            complain(rt, name, error)?;
+            Ok(Input {
+                read: false,
+                bytes: 0,
+            })
+        }
     }
-    let input = fill(fd, &name[..n], buf);
-    libc::close(fd);
-    input
 }

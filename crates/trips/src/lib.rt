@@ -1,3 +1,4 @@
 // A question makes two trips: to the sites and back to the hub.
 #![tactic(auto)]
+
 pub mod calls;

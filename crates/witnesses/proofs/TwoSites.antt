@@ -63,6 +63,7 @@ module _ (left right : List ℕ) {mid high root : ℕ} {rooted rooted' offered o
   pub both : (P : List ℕ → Type 0) → P left → P right → (f : List ℕ) → Mem f sites → P f
   both P a b f (here e) = subst P (sym e) a
   both P a b f (there (here e)) = subst P (sym e) b
+  both P a b f (there (there x8)) = elim x8 [ ]
 
   pub apart : (x : ℕ) → Mem x (nodes (body left)) → Mem x (nodes (body right)) → ⊥
   apart x m k = omega (arith, within l x m, within r x k)

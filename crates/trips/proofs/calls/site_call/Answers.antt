@@ -1,0 +1,12 @@
+-- `trips::calls::site_call` meets its contract.
+-- Assumes nothing.
+use borrow.Author.Rules.{rules}
+use Rattle.trips.proofs.calls.site_call.Goals as goal
+
+pub returns-in-First : goal.returns-in-First
+returns-in-First c =
+    rw c.in-First.is c.mowqachi_first_reply.ensures
+
+pub returns-in-Second : goal.returns-in-Second
+returns-in-Second c =
+    rw c.in-Second.is c.mowqachi_second_reply.ensures
