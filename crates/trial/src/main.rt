@@ -1,13 +1,13 @@
 // The trial program: asks one question from end to end. Its arguments name the files of the whole, the path and the cut list.
 #![tactic(auto)]
+
 mod input;
 
 use asking::question::{SLOTS, ask, cut_parts};
 use asking::sites::sites_of;
 use files::limits::{PART_WORDS, PATH_WORDS, WORK_BYTES};
 use input::load;
-use std::env;
-use std::io;
+use std::{env, io};
 
 // A word more than a whole may have: a longer file is read as too long.
 const WHOLE: usize = 4 * PART_WORDS + 4;
@@ -38,7 +38,15 @@ fn question(rt: &HostRuntime, whole: &[u8], path: &[u8], cuts: &[u8]) -> u32 {
     if number != 0 {
         return number;
     }
-    let told = ask(rt.stdout(), path, sites, &parts, &mut bundle, &mut list, &mut work);
+    let told = ask(
+        rt.stdout(),
+        path,
+        sites,
+        &parts,
+        &mut bundle,
+        &mut list,
+        &mut work,
+    );
     told.number
 }
 

@@ -17,4 +17,4 @@ returns c =
     let a = c.args in
     c.round_trip.ensures.is
     ∙ ask_went_on a.path.now _ (length a.list.now) (length a.work.now) (parts_in a.parts.now a.sites) _ _ _ c.round_trip-first.ensures.is c.if-first-ne0.false
-    _ _ c.round_trip-first.auto.bundle c.round_trip-first.auto.list
+    _ _ c.round_trip-first.auto.list c.round_trip-first.auto.work

@@ -41,21 +41,21 @@ shape_of-work-then-told-ne0 c =
     search rules
 
 pub returns-then-told-ne0 : goal.returns-then-told-ne0
-returns-then-told-ne0 c = (
-  told_refused _ _ _ c.if-told-ne0.true
+returns-then-told-ne0 c = record {
+  is = told_refused _ _ _ c.if-told-ne0.true
       ∙ trip_refused (site_asked c.args.trip c.args.path.now c.args.calls.now) c.loop-left.invariant c.loop-left-test.true c.lowest.ensures c.part_of-part.ensures _ _ _ c.site_file-told.ensures.is
-      (room (goal.at.returns-then-told-ne0 c).In-loop-left) refl c.if-told-ne0.true,
-  omega arith,
-)
+      (room (goal.at.returns-then-told-ne0 c).In-loop-left) refl c.if-told-ne0.true;
+  within = omega arith;
+}
 
 pub overflow_add-end : goal.overflow_add-end
 overflow_add-end c =
-    omega (arith, add_next c, room (goal.at.overflow_add-end c).In-loop-left, c.bundle-1.given.0, c.site_file-told.ensures.within)
+    omega (arith, one (goal.at.overflow_add-end c).In-loop-left, c.loop-left.invariant.space.same, room (goal.at.overflow_add-end c).In-loop-left, c.bundle-1.given.0, c.site_file-told.ensures.within)
 
 pub loop-left-preserved : goal.loop-left-preserved
 loop-left-preserved c =
     trip_next (site_asked c.args.trip c.args.path.now c.args.calls.now) c.loop-left.invariant c.loop-left-test.true c.lowest.ensures c.part_of-part.ensures _ _ _ c.site_file-told.ensures.is
-    (room (goal.at.loop-left-preserved c).In-loop-left) refl _ (c.loop-left.end + slot - c.loop-left.end) c.if-told-ne0.false c.without_lowest-left.ensures c.bundle-1.given.1 c.site_file-told.auto.out
+    (room (goal.at.loop-left-preserved c).In-loop-left) refl _ (c.loop-left.end + slot - c.loop-left.end) c.if-told-ne0.false c.without_lowest-left.ensures c.bundle-1.given.1 c.site_file-told.auto.work
     (omega (arith, room (goal.at.loop-left-preserved c).In-loop-left, c.bundle-1.given.0, c.site_file-told.ensures.within)) c.site_file-told.ensures.within
 
 pub shape_of-bundle : goal.shape_of-bundle
@@ -65,4 +65,4 @@ pub shape_of-work : goal.shape_of-work
 shape_of-work c = c.loop-left.invariant.space.same_work
 
 pub returns : goal.returns
-returns c = (trip_last c.loop-left.invariant c.loop-left-test.false, omega (arith, c.loop-left.invariant.space.fits))
+returns c = record { is = trip_last c.loop-left.invariant c.loop-left-test.false; within = omega (arith, c.loop-left.invariant.space.fits) }

@@ -14,20 +14,20 @@ slice_bounds-gather-end-2 c = sym (length-take-le _ _ c.requires.2)
 
 pub returns-then-replies-ne0 : goal.returns-then-replies-ne0
 returns-then-replies-ne0 c =
-    let a = c.args in (
-      round_ended a.trip a.path.now (take a.called a.list.now) (length a.list.now) (length a.work.now) (parts_in a.parts.now a.sites)
-          _ _ _ c.gather-replies.ensures.is _ c.if-replies-ne0.true,
-      omega arith,
-    )
+    let a = c.args in record {
+      is = round_ended a.trip a.path.now (take a.called a.list.now) (length a.list.now) (length a.work.now) (parts_in a.parts.now a.sites)
+          _ _ _ c.gather-replies.ensures.is _ c.if-replies-ne0.true;
+      within = omega arith;
+    }
 
 pub slice_bounds-hub_file-end-2 : goal.slice_bounds-hub_file-end-2
 slice_bounds-hub_file-end-2 c = sym (length-take-le _ _ c.gather-replies.ensures.within)
 
 pub returns : goal.returns
 returns c =
-    let a = c.args in (
-      c.hub_file.ensures.is
+    let a = c.args in record {
+      is = c.hub_file.ensures.is
           ∙ round_went_on a.trip a.path.now (take a.called a.list.now) (length a.list.now) (length a.work.now) (parts_in a.parts.now a.sites)
-          _ _ _ c.gather-replies.ensures.is c.if-replies-ne0.false _ _ refl c.gather-replies.auto.bundle,
-      c.hub_file.ensures.within,
-    )
+          _ _ _ c.gather-replies.ensures.is c.if-replies-ne0.false _ _ refl c.gather-replies.auto.work;
+      within = c.hub_file.ensures.within;
+    }
