@@ -1,17 +1,17 @@
 -- A trip's files, one after another.
 use mathlib.Core.Path.{◌≡◌, refl, sym, ap, ◌∙◌}
-use mathlib.Core.Logic.{◌⊎◌, inl, inr}
-use mathlib.Core.List.{List, [], ◌∷◌, ◌++◌, flatten, map, append_assoc, append-nil}
-use Prim.Native.Nat.{ℕ, zero, suc, ◌+◌, ◌-◌, ◌≤◌, ◌<◌}
+use mathlib.Core.Logic.{inl, inr}
+use mathlib.Core.List.{List, ◌∷◌, ◌++◌, flatten, map, append_assoc, append-nil}
+use Prim.Native.Nat.{ℕ, ◌+◌, ◌-◌, ◌≤◌, ◌<◌}
 use native.Mathlib.Omega.{arith}
-use borrow.Rule.Slice.PartMut.{mid_of, put_mid}
+use borrow.Rule.Slice.PartMut.{put_mid}
 use lib.Bits.{bit_and}
 use lib.ListN.{length, take}
-use Rattle.sets.specs.States.{states_of, has_state, lowest_of, Lowest, Rest}
+use Rattle.sets.specs.States.{lowest_of, Lowest, Rest}
 use Rattle.sets.proofs.Members.{states_empty, states_step}
 use Rattle.demands.specs.Question.{Asking, stopped, going, each, ◌>>=◌}
 use Rattle.asking.specs.Run.{Said, told, said, slot, bundled, part_in, parts_in}
-use Rattle.asking.proofs.Spaces.{Space, space_one, space_next, front_more}
+use Rattle.asking.proofs.Spaces.{Space, space_next, front_more}
 use Rattle.asking.proofs.Handing.{told_refused}
 
 -- what is said where some bytes stand and the files of some parts follow

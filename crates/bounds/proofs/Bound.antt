@@ -11,7 +11,6 @@ use Rattle.sets.proofs.Sets.{lists_unique}
 use Rattle.sets.proofs.Filter.{lists_self}
 use Rattle.files.specs.Word.{words}
 use Rattle.files.specs.Field.{labels_of}
-use Rattle.files.specs.Part.{doors}
 use Rattle.files.proofs.Blocks.{doors_nodes, node_small}
 use Rattle.files.proofs.Parts.{doors_ascending}
 use Rattle.files.proofs.Groups.{groups_ranges, loaded_checked, loaded_head}

@@ -9,14 +9,14 @@ use mir.Syntax.{w64}
 use mir.Val.{Fits}
 use borrow.Author.Tests.{eq-eqb, ne_eqb}
 use lib.Dec.{eqb}
-use lib.ListN.{length, get_or, drop, length-drop, drop_of_length-le}
-use lib.Seq.{drop-drop, drop-nil}
+use lib.ListN.{length, get_or, drop, length-drop}
+use lib.Seq.{drop-drop}
 use Rattle.bundles.specs.Stretch.{clashing}
 use Rattle.sets.specs.Sets.{any, filter, member}
 use Rattle.sets.specs.States.{has_state}
 use Rattle.sets.specs.NodeSet.{has_node, Added, node_set_bytes}
 use Rattle.sets.proofs.Cases.{or_swap}
-use Rattle.sets.proofs.Tests.{either, same_test, eq_iff}
+use Rattle.sets.proofs.Tests.{same_test, eq_iff}
 use Rattle.sets.proofs.StateSets.{has_empty}
 use Rattle.sets.proofs.NodeSets.{nodes_none}
 use Rattle.files.specs.declared.cursor.Cursor.{Cursor}
@@ -28,7 +28,6 @@ use Rattle.files.specs.Outcome.{zeros}
 use Rattle.files.specs.Field.{kind_of, site_of, labels_of, size_of, node_of}
 use Rattle.files.specs.Refuse.{◌unless◌}
 use Rattle.files.specs.Bundle.{headers, headers_check, twice}
-use Rattle.files.proofs.Words.{words_length}
 use Rattle.files.proofs.Reading.{taken, ended, words_left, words_over}
 
 -- an element was seen, or stands twice

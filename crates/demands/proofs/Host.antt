@@ -1,9 +1,9 @@
 -- The host's part of the question: an accepted call's file is handed on as it was written; a refusal ends the question. Assumes nothing.
 use mathlib.Core.Path.{◌≡◌, refl, sym, ◌∙◌, ap}
 use mathlib.Core.List.{List, [], ◌∷◌, map, flatten}
-use Prim.Native.Nat.{ℕ, zero, suc, ◌-◌, ◌*◌, ◌^◌, ◌<◌}
+use Prim.Native.Nat.{ℕ, zero, suc, ◌-◌, ◌*◌}
 use native.Mathlib.Omega.{arith}
-use lib.ListN.{length, get_or}
+use lib.ListN.{length}
 use Rattle.sets.specs.Sets.{Mem, here, there}
 use Rattle.files.specs.Word.{bytes_of}
 use Rattle.files.specs.Outcome.{Outcome, refused, accepted, leaves, zeros}

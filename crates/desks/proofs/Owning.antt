@@ -1,14 +1,14 @@
 -- What desks have by themselves, and the choice among them. Assumes nothing.
 use mathlib.Core.Path.{◌≡◌, refl, sym, ◌∙◌, ap}
-use mathlib.Core.Bool.{Bool, true, false, cond, ◌||◌}
+use mathlib.Core.Bool.{Bool, true, false}
 use mathlib.Core.List.{List, [], ◌∷◌, ◌++◌, append_assoc}
-use Prim.Native.Nat.{ℕ, zero, suc, ◌+◌, ◌-◌, ◌*◌, ◌≤◌, ◌<◌}
+use Prim.Native.Nat.{ℕ, zero, suc, ◌+◌, ◌*◌, ◌≤◌, ◌<◌}
 use native.Mathlib.Omega.{arith}
 use borrow.Author.Tests.{leb-true, leb-false, le-leb, lt-leb}
 use lib.Dec.{leb}
-use lib.ListN.{length, get_or, take, drop, length-append, get_or-eq_default}
+use lib.ListN.{length, get_or, length-append, get_or-eq_default}
 use Rattle.files.specs.Limits.{reply_words}
-use Rattle.path_bundles.specs.Split.{file_in, behind, split}
+use Rattle.path_bundles.specs.Split.{behind, split}
 use Rattle.path_bundles.specs.Place.{file_at}
 use Rattle.path_bundles.proofs.Places.{file_split}
 use Rattle.visits.specs.Answered.{Own, own_by, own}

@@ -1,12 +1,11 @@
 -- Laws of where the desks stand: numbers that are entered, and words that are taken away. Assumes nothing.
-use mathlib.Core.Path.{◌≡◌, refl, sym, ◌∙◌, ap}
+use mathlib.Core.Path.{◌≡◌}
 use mathlib.Core.List.{List, [], ◌∷◌, ◌++◌, append-nil}
-use Prim.Native.Nat.{ℕ, suc, ◌+◌, ◌-◌, ◌*◌, ◌/◌, ◌≤◌, ◌<◌}
+use Prim.Native.Nat.{ℕ, ◌+◌, ◌-◌, ◌*◌, ◌/◌, ◌≤◌, ◌<◌}
 use native.Mathlib.Omega.{arith}
 use borrow.Author.Tests.{le-leb, lt-leb}
 use borrow.Rule.Slice.PartMut.{mid_of, put_mid, mid_len}
-use lib.ListN.{length, take, drop, length-drop, length-append, length-replicate, drop_of_length-le}
-use lib.Seq.{length-take-le}
+use lib.ListN.{length, drop, length-drop, drop_of_length-le}
 use Rattle.files.specs.Outcome.{zeros}
 use Rattle.path_bundles.specs.Packed.{packed}
 use Rattle.choices.specs.Choice.{short_words}

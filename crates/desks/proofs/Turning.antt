@@ -1,26 +1,24 @@
 -- Laws of one desk's turn, in either round. Assumes nothing.
 use mathlib.Core.Path.{◌≡◌, refl, sym, ◌∙◌, ap, subst}
-use mathlib.Core.Bool.{Bool, true, false, cond, ◌&&◌, ◌||◌}
-use mathlib.Core.List.{List, [], ◌∷◌, ◌++◌, append-nil}
-use Prim.Native.Nat.{ℕ, zero, suc, ◌+◌, ◌-◌, ◌*◌, ◌≤◌, ◌<◌, min}
+use mathlib.Core.Bool.{Bool, true, false, ◌&&◌}
+use mathlib.Core.List.{List, append-nil}
+use Prim.Native.Nat.{ℕ, suc, ◌+◌, ◌-◌, ◌*◌, ◌≤◌, ◌<◌, min}
 use native.Mathlib.Omega.{arith}
 use borrow.Author.Tests.{eqb-true, leb-true, leb-false, le-leb, lt-leb}
 use lib.Dec.{T, eqb, leb}
-use lib.ListN.{length, take}
+use lib.ListN.{length}
 use Rattle.sets.proofs.Cases.{clash}
-use Rattle.files.specs.Word.{bytes_of}
 use Rattle.files.specs.Limits.{reply_words}
-use Rattle.files.specs.Outcome.{zeros, padded}
-use Rattle.output.specs.Writer.{Extends}
+use Rattle.files.specs.Outcome.{padded}
 use Rattle.path_bundles.specs.Place.{file_at}
-use Rattle.visits.specs.Answered.{SiteReady, Own, own_by, own, PathAsked}
+use Rattle.visits.specs.Answered.{Own, own, PathAsked}
 use Rattle.visits.proofs.Visiting.{own_small}
 use Rattle.choices.specs.Choice.{short_words}
 use Rattle.desks.specs.declared.stand.Stand.{Stand}
-use Rattle.desks.specs.Owns.{size_of_own, short_part, long_part, offered}
+use Rattle.desks.specs.Owns.{size_of_own, short_part}
 use Rattle.desks.specs.Stands.{Settles, Erased}
-use Rattle.desks.specs.Turns.{Asking, Puts, layable, MayLay, Lays, MayChoose, Gets, Chooses}
-use Rattle.desks.proofs.Owning.{Sort, short, long, sort, offered_short, offered_fits, offered_over}
+use Rattle.desks.specs.Turns.{Puts, layable, Lays, MayChoose, Gets, Chooses}
+use Rattle.desks.proofs.Owning.{short, long, sort, offered_short, offered_fits, offered_over}
 
 -- ---- a path is asked, behind the words that stand
 

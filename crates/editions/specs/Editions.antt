@@ -2,7 +2,8 @@
 -- Document 02, request 8.
 use Rattle.std.specs.Prelude.{ℕ, ◌+◌, ◌*◌, ◌≤◌, ◌<◌, ◌≡◌, ◌↔◌, ◌⊎◌, List, [], ◌∷◌, leb, length, get_or, drop}
 use Rattle.sets.specs.Sets.{Mem, Same, Distinct, Lists}
-use Rattle.files.specs.Word.{words, bytes_of, Bytes}
+pub use Rattle.files.specs.Word.{Bytes}
+use Rattle.files.specs.Word.{words, bytes_of}
 use Rattle.files.specs.Field.{site_of}
 use Rattle.files.specs.Refuse.{◌then◌, ◌unless◌, room_check, size_check}
 use Rattle.files.specs.Outcome.{Outcome, refused, accepted, leaves}

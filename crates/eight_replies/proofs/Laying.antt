@@ -1,9 +1,8 @@
 -- The two rounds over all desks. Assumes nothing.
 use mathlib.Core.Path.{◌≡◌, refl, sym, ◌∙◌, ap, subst}
-use mathlib.Core.Logic.{inl, inr}
-use mathlib.Core.Bool.{Bool, true, false, cond, ◌&&◌, ◌||◌}
+use mathlib.Core.Bool.{Bool, true, false, cond}
 use mathlib.Core.List.{List, [], ◌∷◌, ◌++◌, append-nil, append_assoc}
-use Prim.Native.Nat.{ℕ, zero, suc, ◌+◌, ◌-◌, ◌*◌, ◌≤◌, ◌<◌, min}
+use Prim.Native.Nat.{ℕ, zero, suc, ◌+◌, ◌-◌, ◌*◌, ◌≤◌, ◌<◌}
 use native.Mathlib.Omega.{arith}
 use native.Mathlib.Decide.{dec_lt}
 use borrow.Author.Tests.{eqb-true, eq-eqb, leb-true, le-leb}
@@ -17,7 +16,7 @@ use Rattle.files.proofs.Buffers.{padded_none}
 use Rattle.path_bundles.specs.Split.{behind, split}
 use Rattle.path_bundles.specs.Packed.{packed}
 use Rattle.path_bundles.specs.Place.{file_at}
-use Rattle.visits.specs.Answered.{SiteReady, Own, own_by, own}
+use Rattle.visits.specs.Answered.{SiteReady, Own, own}
 use Rattle.visits.proofs.Visiting.{same_ready, own_room}
 use Rattle.choices.specs.Choice.{short_words}
 use Rattle.desks.specs.declared.stand.Stand.{Stand}
@@ -25,7 +24,7 @@ use Rattle.desks.specs.Owns.{owns, size_of_own, short_part, long_part, short_sum
 use Rattle.desks.specs.Stands.{Enters, Settles}
 use Rattle.desks.specs.Turns.{Asking, Puts, layable, MayLay, Lays, MayChoose, Chooses}
 use Rattle.eight_replies.specs.Rounds.{Stood, Shares}
-use Rattle.desks.proofs.Owning.{nothing, Sort, short, long, sort, offered_short, offered_fits, offered_over, long_sum, replies_append, short_append, words_parted, short_few, chosen_front, chosen_none, chosen_step, owns_length, owns_at, owns_past}
+use Rattle.desks.proofs.Owning.{nothing, short, long, sort, offered_short, offered_fits, offered_over, long_sum, replies_append, short_append, words_parted, short_few, chosen_front, chosen_none, chosen_step, owns_length, owns_at, owns_past}
 use Rattle.desks.proofs.Turning.{both_true}
 
 -- with buffers of the same lengths

@@ -25,7 +25,7 @@ use Rattle.files.specs.Limits.{part_words, path_words, reply_words}
 use Rattle.files.proofs.Checks.{checks, then_iff, then_zero, zero_accepted}
 use Rattle.files.proofs.Words.{words_length}
 use Rattle.files.proofs.Groups.{groups_ranges, loaded_checked}
-use Rattle.path_bundles.specs.Split.{bytes_in, behind, IsSplit, split, split_check}
+use Rattle.path_bundles.specs.Split.{bytes_in, IsSplit, split, split_check}
 use Rattle.path_bundles.specs.Packed.{number_of}
 use Rattle.path_bundles.proofs.Splitting.{split_one, split_iff}
 use Rattle.first_replies.specs.FirstReply.{first_reply}

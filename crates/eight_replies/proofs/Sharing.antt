@@ -1,10 +1,9 @@
 -- What the desks share is the choice among what each would get by itself. Assumes nothing.
-use mathlib.Core.Path.{◌≡◌, refl, sym, ◌∙◌, ap, ap₂, subst}
+use mathlib.Core.Path.{◌≡◌, refl, sym, ◌∙◌, ap, ap₂}
 use mathlib.Core.List.{List, [], ◌∷◌, ◌++◌, map, flatten}
 use Prim.Native.Nat.{ℕ, zero, suc, ◌+◌, ◌≤◌, ◌<◌}
-use native.Mathlib.Nat.{add-zero}
 use native.Mathlib.Omega.{arith}
-use native.Mathlib.Decide.{dec_lt, dec_le}
+use native.Mathlib.Decide.{dec_le}
 use lib.ListN.{length, replicate}
 use Rattle.sets.specs.Sets.{Mem, here, there}
 use Rattle.files.specs.Limits.{reply_words}
@@ -12,16 +11,15 @@ use Rattle.files.specs.Outcome.{Outcome, refused, accepted, outcome, zeros, padd
 use Rattle.files.proofs.Checks.{outcome_gives, outcome_over}
 use Rattle.path_bundles.specs.Split.{file_in, behind}
 use Rattle.path_bundles.specs.Packed.{packed}
-use Rattle.visits.specs.Answered.{VisitChecked, SiteReady, Own, own_by, own}
-use Rattle.visits.specs.Whole.{whole_grouped_number}
+use Rattle.visits.specs.Answered.{VisitChecked, SiteReady, Own, own_by}
 use Rattle.visits.proofs.Visiting.{site_ready, ready_split, own_answered, own_formed, whole_small}
 use Rattle.visits.proofs.Answering.{by_files, outcomes}
-use Rattle.choices.specs.Choice.{Desk, is_short, is_long, words_in, choose, numbers, put_in}
+use Rattle.choices.specs.Choice.{Desk, is_short, words_in, choose, numbers, put_in}
 use Rattle.choices.specs.Shared.{desk_of, reply_of, numbers_of, shared, leaves_shared}
 use Rattle.choices.proofs.Choosing.{choose_other, choose_fits, choose_over, short_desk, long_desk, refused_desk}
 use Rattle.desks.specs.Owns.{owns, size_of_own, short_part, long_part, short_sum, offered, chosen, replies_of, numbers_in}
 use Rattle.desks.specs.Turns.{Asking}
-use Rattle.desks.proofs.Owning.{sort, short, long, offered_short, offered_fits, offered_over, chosen_none, chosen_step}
+use Rattle.desks.proofs.Owning.{sort, short, long, offered_short, offered_fits, offered_over, chosen_step}
 use Rattle.eight_replies.specs.Rounds.{Shares}
 use Rattle.eight_replies.specs.Eight.{desk_count, eight_replies_grouped, eight_replies_grouped_call}
 

@@ -1,19 +1,13 @@
 -- Laws of buffers: zeros filled in from the front, and words put one after another in front of zeros.
 -- Assumes nothing.
-use mathlib.Core.Path.{◌≡◌, refl, sym, ap, ◌∙◌}
+use mathlib.Core.Path.{◌≡◌, refl}
 use mathlib.Core.List.{List, [], ◌∷◌, ◌++◌, append-nil}
-use Prim.Native.Nat.{ℕ, zero, suc, ◌+◌, ◌-◌, ◌*◌, ◌≤◌, ◌<◌}
+use Prim.Native.Nat.{ℕ, suc, ◌+◌, ◌-◌, ◌*◌, ◌≤◌, ◌<◌}
 use native.Mathlib.Omega.{arith}
 use borrow.Author.Fill.{fill_more}
-use lib.Seq.{length-take-le}
-use lib.ListN.{length, set, take, drop, take-append-drop, length-set, drop_of_length-le, length-append, length-replicate}
-use Rattle.files.specs.Word.{words, bytes_of, put_word}
-use Rattle.files.specs.declared.cursor.Cursor.{Cursor}
-use Rattle.files.specs.declared.cursor.Step.{Step}
-use Rattle.files.specs.declared.cursor.Step.TheVariants.{Word, End}
-use Rattle.files.specs.Read.{read_at}
+use lib.ListN.{length, set, drop, length-set, drop_of_length-le, length-append, length-replicate}
+use Rattle.files.specs.Word.{bytes_of, put_word}
 use Rattle.files.proofs.Words.{bytes_length}
-use Rattle.files.proofs.Reading.{taken, ended}
 use Rattle.files.specs.Outcome.{zeros, padded}
 
 -- of d, the first i bytes are 0 in buf

@@ -1,22 +1,19 @@
 -- Four paths in one visit: what all of them leave. Assumes nothing.
-use mathlib.Core.Path.{◌≡◌, refl, sym, ◌∙◌, ap, ap₂}
+use mathlib.Core.Path.{◌≡◌, refl, sym, ◌∙◌, ap}
 use mathlib.Core.List.{List, [], ◌∷◌, map}
-use Prim.Native.Nat.{ℕ, zero, suc, ◌≤◌, ◌<◌}
+use Prim.Native.Nat.{ℕ, ◌<◌}
 use native.Mathlib.Omega.{arith}
 use lib.ListN.{length}
-use Rattle.sets.specs.Sets.{Mem, here, there}
+use Rattle.sets.specs.Sets.{Mem}
 use Rattle.files.specs.Word.{bytes_of}
-use Rattle.files.specs.Outcome.{Outcome, accepted, zeros}
+use Rattle.files.specs.Outcome.{zeros}
 use Rattle.files.specs.Groups.{our_groups}
-use Rattle.files.proofs.Checks.{checks}
-use Rattle.path_bundles.specs.Split.{file_in, behind, split}
+use Rattle.path_bundles.specs.Split.{split}
 use Rattle.path_bundles.specs.Packed.{packed, LeftSeveral, left_several, number_of, outputs_of, leaves_several}
-use Rattle.path_bundles.proofs.Splitting.{split_is}
-use Rattle.site_first.specs.First.{first_reply_grouped_call}
 use Rattle.site_first.proofs.FirstCalls.{first_ours}
 use Rattle.visits.specs.Whole.{shortest, whole_number}
-use Rattle.visits.specs.Visit.{answers, visit}
-use Rattle.visits.specs.Answered.{VisitChecked, SiteRead, SiteReady, answered_by, PathLeft}
+use Rattle.visits.specs.Visit.{visit}
+use Rattle.visits.specs.Answered.{VisitChecked, SiteReady, PathLeft}
 use Rattle.visits.proofs.Visiting.{site_ready, ready_split, left_small}
 use Rattle.visits.proofs.Answering.{by_files, outcomes}
 use Rattle.four_replies.specs.Four.{visit_paths, four_replies, four_replies_grouped, four_replies_call, four_replies_grouped_call}

@@ -15,7 +15,7 @@ use Rattle.files.proofs.Words.{words_bytes, bytes_length}
 use Rattle.hub_calls.specs.CallList.{stray_check, call_list_call}
 use Rattle.hub_join.specs.Join.{join_call}
 use Rattle.demands.specs.Grouped.{first_call}
-use Rattle.demands.specs.Question.{first, calls, second, join}
+use Rattle.demands.specs.Question.{calls, join}
 use Rattle.demands.specs.Demand.{Asked, NoneWalked, Put, Right, SmallBundles, Claim}
 use Rattle.demands.proofs.Host.{stopped_going, going_same, bind_going, call_zero, ask_hub, ask_join, Zero, AllZero, all_zero}
 use Rattle.demands.proofs.Owed.{first_of, bundle, list, bundle', owed}

@@ -13,7 +13,7 @@ use Rattle.sets.proofs.Tables.{half_zero, zero_at}
 use Rattle.sets.proofs.Tests.{is_true}
 use Rattle.files.specs.Word.{words}
 use Rattle.files.specs.Outcome.{zeros}
-use Rattle.files.specs.Refuse.{◌then◌, ◌unless◌}
+use Rattle.files.specs.Refuse.{◌unless◌}
 use Rattle.files.specs.Reply.{reply_check, doors, roots}
 use Rattle.files.specs.Bundle.{files_check, headers, headers_check, twice, first_bundle_check}
 use Rattle.files.specs.Limits.{bundle_words, work_bytes}

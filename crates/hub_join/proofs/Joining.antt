@@ -13,7 +13,7 @@ use Rattle.sets.proofs.Filter.{filter_length}
 use Rattle.sets.proofs.Lengths.{set_of_length}
 use Rattle.sets.proofs.Distinct.{set_of_perm}
 use Rattle.files.specs.Field.{kind_of, size_of, node_of, file, answer_word}
-use Rattle.files.specs.Refuse.{◌then◌, header_check}
+use Rattle.files.specs.Refuse.{header_check}
 use Rattle.files.specs.Word.{bytes_of}
 use Rattle.files.specs.Outcome.{outcome}
 use Rattle.files.specs.Bundle.{files_check, second_bundle_check}

@@ -16,7 +16,7 @@ use Rattle.sets.proofs.Tests.{either}
 use Rattle.sets.proofs.Cases.{and_left, and_right, or_elim, clash, not_known}
 use Rattle.sets.proofs.Tallies.{tally_le, tally_front, tally_suc, tally_apart}
 use Rattle.files.specs.Field.{kind_of, node_of}
-use Rattle.files.specs.Reply.{is_door_word, is_row, is_reach, doors}
+use Rattle.files.specs.Reply.{is_door_word, is_row, is_reach}
 use Rattle.files.specs.Limits.{bundle_words}
 use Rattle.door_index.specs.Index.{door_nodes}
 use Rattle.door_index.proofs.Ranking.{doors_few}

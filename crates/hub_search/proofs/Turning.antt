@@ -1,7 +1,7 @@
 -- The search by places: a turn takes the door on top of the stack and follows the rows of its pending states; where no door waits, the table holds
 -- the called pairs, and all of them name doors. Assumes nothing.
 use mathlib.Core.Path.{◌≡◌, refl, sym, ◌∙◌}
-use mathlib.Core.Logic.{◌⊎◌, inl, inr, ⊎_elim, ◌↔◌}
+use mathlib.Core.Logic.{inl, inr, ⊎_elim, ◌↔◌}
 use mathlib.Core.Bool.{Bool, true, false, not, ◌&&◌}
 use mathlib.Core.List.Memᴰ
 use mathlib.Core.List.{List, [], ◌∷◌}
@@ -10,7 +10,7 @@ use native.Mathlib.Omega.{arith}
 use lib.Count.{count_trailing_zeros}
 use lib.Dec.{eqb}
 use lib.ListN.{length, get_or, drop}
-use Rattle.sets.specs.Sets.{Mem, here, there}
+use Rattle.sets.specs.Sets.{Mem}
 use Rattle.sets.specs.Reach.{seed as reach-seed, next as reach-next}
 use Rattle.sets.specs.States.{has_state}
 use Rattle.sets.specs.Table.{half, put_half}

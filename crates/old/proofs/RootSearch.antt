@@ -12,7 +12,6 @@ use Rattle.kinds.specs.Seek.{FirstThat}
 use Rattle.kinds.proofs.Roots.{root_marked, marked_root}
 use Rattle.files.specs.Limits.{final_words}
 use Rattle.expressions.specs.Expr.{Expr}
-use Rattle.expressions.specs.Positions.{accepts}
 use Rattle.expressions.specs.Labels.{expr_of}
 use Rattle.paths.specs.Letters.{reads}
 use Rattle.paths.specs.Automaton.{Automates}

@@ -2,18 +2,18 @@
 use mathlib.Core.Path.{◌≡◌, refl, sym, ◌∙◌, ap}
 use mathlib.Core.Bool.{Bool, true, false}
 use mathlib.Core.List.{List, [], ◌∷◌, ◌++◌, append-nil, append_assoc}
-use Prim.Native.Nat.{ℕ, suc, ◌+◌, ◌-◌, ◌*◌, ◌%◌, ◌^◌, ◌≤◌, ◌<◌, min}
+use Prim.Native.Nat.{ℕ, suc, ◌+◌, ◌-◌, ◌*◌, ◌%◌, ◌^◌, ◌≤◌, min}
 use native.Mathlib.Omega.{arith}
 use borrow.Author.Tests.{leb-true, leb-false, le-leb, lt-leb}
 use lib.Dec.{leb}
 use lib.ListN.{length, take, length-append}
-use lib.Seq.{take_at, take_all, take-append-add, take-append-le}
+use lib.Seq.{take_at, take_all, take-append-add}
 use Rattle.files.specs.Word.{bytes_of, put_word}
 use Rattle.files.specs.Field.{header_word, file}
 use Rattle.files.specs.Refuse.{◌unless◌}
 use Rattle.files.specs.Limits.{final_words}
 use Rattle.files.specs.Outcome.{zeros, padded}
-use Rattle.files.proofs.Buffers.{padded_more, padded_none}
+use Rattle.files.proofs.Buffers.{padded_none}
 use Rattle.files.proofs.Bytes.{bytes_append}
 use Rattle.files.proofs.Words.{bytes_length}
 use Rattle.output.specs.Writer.{Written, Counts, Writes, Extends, Filed}

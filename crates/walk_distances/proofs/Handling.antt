@@ -18,7 +18,7 @@ use Rattle.sets.proofs.Filter.{any_iff}
 use Rattle.sets.proofs.Members.{members_in, in_members}
 use Rattle.sets.proofs.StateSets.{has_empty}
 use Rattle.files.specs.Field.{label_of, target_of}
-use Rattle.files.specs.Part.{is_node, is_edge, edges, part_check, scan, start, word_check, next}
+use Rattle.files.specs.Part.{is_node, is_edge, part_check, scan, start, word_check, next}
 use Rattle.files.specs.declared.part.Seen.{Seen}
 use Rattle.files.proofs.Checks.{then_iff}
 use Rattle.files.proofs.Parts.{part_read, edge_iff}

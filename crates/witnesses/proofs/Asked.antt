@@ -37,7 +37,7 @@ use Rattle.hub_join.specs.Join.{joined, join_call}
 use Rattle.old.proofs.OldSearch.{root_pairs}
 use Rattle.cutter.specs.Cut.{cut, cut_call}
 use Rattle.cutter.proofs.Parts.{cut_call_lem}
-use Rattle.table.specs.Table.{whole, path, part0, part1, calls, second0, second1, final, b}
+use Rattle.table.specs.Table.{whole, path, part0, part1, second0, second1, final, b}
 use Rattle.files.specs.Cuts.{cut_check}
 use Rattle.demands.specs.Plant.{OneRoot, Unwalked, Words, body}
 use Rattle.demands.specs.PlantOf.{plant_of, parts_of}

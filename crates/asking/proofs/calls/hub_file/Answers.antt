@@ -1,6 +1,5 @@
 -- `asking::calls::hub_file` meets its contract.
 -- Assumes nothing.
-use borrow.Author.Rules.{rules}
 use mathlib.Core.Path.{◌∙◌}
 use Rattle.asking.proofs.Handing.{hub_said}
 use Rattle.asking.proofs.calls.hub_file.Goals as goal

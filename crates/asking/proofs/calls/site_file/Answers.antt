@@ -1,6 +1,5 @@
 -- `asking::calls::site_file` meets its contract.
 -- Assumes nothing.
-use borrow.Author.Rules.{rules}
 use mathlib.Core.Path.{◌∙◌}
 use Rattle.asking.proofs.Handing.{site_said}
 use Rattle.asking.proofs.calls.site_file.Goals as goal

@@ -1,6 +1,5 @@
 -- `asking::file::tell` meets its contract.
 -- Assumes nothing.
-use borrow.Author.Rules.{rules}
 use native.Mathlib.Omega.{arith}
 use Rattle.asking.proofs.Handing.{handed_refused, handed_file}
 use Rattle.asking.proofs.file.tell.Goals as goal

@@ -1,6 +1,5 @@
 -- `asking::question::ask` meets its contract.
 -- Assumes nothing.
-use borrow.Author.Rules.{rules}
 use mathlib.Core.Path.{◌∙◌}
 use lib.ListN.{length}
 use Rattle.asking.specs.Run.{parts_in}

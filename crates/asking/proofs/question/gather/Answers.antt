@@ -9,7 +9,7 @@ use lib.ListN.{length}
 use Rattle.asking.specs.Run.{slot, site_asked}
 use Rattle.asking.proofs.Handing.{told_refused}
 use Rattle.asking.proofs.Spaces.{space_first, space_one, slot_length}
-use Rattle.asking.proofs.Trips.{OnTrip, trip_first, trip_refused, trip_next, trip_last}
+use Rattle.asking.proofs.Trips.{trip_first, trip_refused, trip_next, trip_last}
 use Rattle.asking.proofs.question.gather.Goals.{In-loop-left}
 use Rattle.asking.proofs.question.gather.Goals as goal
 

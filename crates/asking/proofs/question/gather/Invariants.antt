@@ -1,15 +1,8 @@
 -- `asking::question::gather` meets its contract.
 -- Assumes nothing.
-use borrow.Author.Rules.{rules}
-use native.Mathlib.Omega.{arith}
-use mathlib.Core.Path.{◌≡◌, refl, ◌∙◌}
-use Prim.Native.Nat.{◌+◌, ◌-◌, ◌≤◌}
-use borrow.Rule.Slice.PartMut.{mid_of}
 use lib.ListN.{length}
 use Rattle.asking.specs.Run.{slot, site_asked}
-use Rattle.asking.proofs.Handing.{told_refused}
-use Rattle.asking.proofs.Spaces.{space_first, space_one, slot_length}
-use Rattle.asking.proofs.Trips.{OnTrip, trip_first, trip_refused, trip_next, trip_last}
+use Rattle.asking.proofs.Trips.{OnTrip}
 use Rattle.asking.proofs.question.gather.Given as goal
 
 abbrev pub invariant-loop-left : goal.invariant-loop-left

@@ -1,6 +1,5 @@
 -- `asking::question::part_of` meets its contract.
 -- Assumes nothing.
-use borrow.Author.Rules.{rules}
 use mathlib.Core.Path.{◌∙◌}
 use Rattle.asking.proofs.Spaces.{part_is}
 use Rattle.asking.proofs.question.part_of.Goals as goal

@@ -1,9 +1,7 @@
 -- `asking::sites::sites_of` meets its contract.
 -- Assumes nothing.
 use borrow.Author.Rules.{rules}
-use Prim.Native.Nat.{◌-◌}
-use lib.ListN.{length}
-use Rattle.asking.proofs.Named.{Named, named_none, named_more, named_all}
+use Rattle.asking.proofs.Named.{named_none, named_more, named_all}
 use Rattle.asking.proofs.sites.sites_of.Goals as goal
 
 pub loop-i-init : goal.loop-i-init

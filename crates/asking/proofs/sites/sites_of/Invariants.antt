@@ -1,9 +1,8 @@
 -- `asking::sites::sites_of` meets its contract.
 -- Assumes nothing.
-use borrow.Author.Rules.{rules}
 use Prim.Native.Nat.{◌-◌}
 use lib.ListN.{length}
-use Rattle.asking.proofs.Named.{Named, named_none, named_more, named_all}
+use Rattle.asking.proofs.Named.{Named}
 use Rattle.asking.proofs.sites.sites_of.Given as goal
 
 abbrev pub invariant-loop-i : goal.invariant-loop-i

@@ -1,12 +1,7 @@
 -- `bundles::bundle::check_files` meets its contract.
 -- Assumes nothing.
 use borrow.Author.Rules.{rules}
-use Prim.Native.Nat.{◌-◌, ◌/◌}
-use lib.ListN.{length}
-use Rattle.files.specs.Word.{words}
-use Rattle.files.specs.Bundle.{files_check}
-use Rattle.bundles.specs.Stretch.{kind_in, body_in}
-use Rattle.bundles.proofs.Stretches.{Bundling, bundling_first, bundling_last, bundling_refused, bundling_more, bundling_less, bundling_fits}
+use Rattle.bundles.proofs.Stretches.{bundling_first, bundling_last, bundling_refused, bundling_more, bundling_less, bundling_fits}
 use Rattle.bundles.proofs.bundle.check_files.Goals as goal
 
 pub loop-start-init : goal.loop-start-init

@@ -1,6 +1,5 @@
 -- `bundles::bundle::check_head` meets its contract.
 -- Assumes nothing.
-use borrow.Author.Rules.{rules}
 use Rattle.bundles.specs.Stretch.{head_check}
 use Rattle.bundles.proofs.bundle.check_head.Goals as goal
 

@@ -1,6 +1,5 @@
 -- `bundles::bundle::check_over` meets its contract.
 -- Assumes nothing.
-use borrow.Author.Rules.{rules}
 use Rattle.bundles.proofs.bundle.check_over.Goals as goal
 
 pub returns-in-First : goal.returns-in-First

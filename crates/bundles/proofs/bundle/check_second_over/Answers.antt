@@ -1,6 +1,5 @@
 -- `bundles::bundle::check_second_over` meets its contract.
 -- Assumes nothing.
-use borrow.Author.Rules.{rules}
 use Rattle.files.proofs.Checks.{chained}
 use Rattle.bundles.proofs.bundle.check_second_over.Goals as goal
 

@@ -1,6 +1,5 @@
 -- `bundles::bundle::check_words` meets its contract.
 -- Assumes nothing.
-use borrow.Author.Rules.{rules}
 use Rattle.bundles.proofs.bundle.check_words.Goals as goal
 
 pub returns-in-First : goal.returns-in-First

@@ -1,11 +1,10 @@
 -- `bundles::overall::check_headers` meets its contract.
 -- Assumes nothing.
-use borrow.Author.Rules.{rules}
 use Prim.Native.Nat.{◌-◌, ◌/◌}
 use lib.ListN.{length}
 use Rattle.files.specs.Word.{words}
 use Rattle.files.specs.Bundle.{headers, headers_check}
-use Rattle.bundles.proofs.Repeats.{Heading, heading_first, heading_found, heading_fits, heading_less, heading_more, heading_last}
+use Rattle.bundles.proofs.Repeats.{Heading}
 use Rattle.bundles.proofs.overall.check_headers.Given as goal
 
 abbrev pub invariant-loop-start : goal.invariant-loop-start

@@ -1,6 +1,5 @@
 -- `bundles::overall::clashes` meets its contract.
 -- Assumes nothing.
-use borrow.Author.Rules.{rules}
 use Rattle.bundles.specs.Stretch.{clashing}
 use Rattle.bundles.proofs.overall.clashes.Goals as goal
 

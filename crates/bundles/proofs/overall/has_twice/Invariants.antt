@@ -1,12 +1,10 @@
 -- `bundles::overall::has_twice` meets its contract.
 -- Assumes nothing.
-use borrow.Author.Rules.{rules}
 use Prim.Native.Nat.{◌-◌}
 use lib.ListN.{length}
 use Rattle.files.specs.Word.{words}
 use Rattle.files.specs.Bundle.{twice}
-use Rattle.files.proofs.Reading.{fewer}
-use Rattle.bundles.proofs.Repeats.{nodes_of, Repeating, repeating_first, repeating_other, repeating_found, repeating_more, repeating_last}
+use Rattle.bundles.proofs.Repeats.{nodes_of, Repeating}
 use Rattle.bundles.proofs.overall.has_twice.Given as goal
 
 abbrev pub invariant-loop-w : goal.invariant-loop-w

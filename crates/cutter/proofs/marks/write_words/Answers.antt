@@ -1,11 +1,8 @@
 -- `cutter::marks::write_words` meets its contract.
 -- Assumes nothing.
 use borrow.Author.Rules.{rules}
-use Prim.Native.Nat.{◌-◌}
-use lib.ListN.{length}
-use Rattle.files.specs.Word.{words}
 use Rattle.files.proofs.Reading.{fewer}
-use Rattle.cutter.proofs.Passes.{Cutting, cutting_first, cutting_one, cutting_none, cutting_last}
+use Rattle.cutter.proofs.Passes.{cutting_first, cutting_one, cutting_none, cutting_last}
 use Rattle.cutter.proofs.marks.write_words.Goals as goal
 
 pub loop-w-init : goal.loop-w-init

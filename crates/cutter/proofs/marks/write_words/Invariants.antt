@@ -1,11 +1,9 @@
 -- `cutter::marks::write_words` meets its contract.
 -- Assumes nothing.
-use borrow.Author.Rules.{rules}
 use Prim.Native.Nat.{◌-◌}
 use lib.ListN.{length}
 use Rattle.files.specs.Word.{words}
-use Rattle.files.proofs.Reading.{fewer}
-use Rattle.cutter.proofs.Passes.{Cutting, cutting_first, cutting_one, cutting_none, cutting_last}
+use Rattle.cutter.proofs.Passes.{Cutting}
 use Rattle.cutter.proofs.marks.write_words.Given as goal
 
 abbrev pub invariant-loop-w : goal.invariant-loop-w

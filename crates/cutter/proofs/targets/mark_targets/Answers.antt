@@ -1,11 +1,8 @@
 -- `cutter::targets::mark_targets` meets its contract.
 -- Assumes nothing.
 use borrow.Author.Rules.{rules}
-use Prim.Native.Nat.{◌-◌}
-use lib.ListN.{length}
-use Rattle.files.specs.Word.{words}
 use Rattle.files.proofs.Reading.{fewer}
-use Rattle.cutter.proofs.Passes.{Marking, marking_first, marking_more, marking_last}
+use Rattle.cutter.proofs.Passes.{marking_first, marking_more, marking_last}
 use Rattle.cutter.proofs.targets.mark_targets.Goals as goal
 
 pub loop-w-init : goal.loop-w-init

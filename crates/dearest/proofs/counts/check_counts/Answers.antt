@@ -1,5 +1,4 @@
 -- `dearest::counts::check_counts` meets its contract. Assumes nothing.
-use borrow.Author.Rules.{rules}
 use Rattle.dearest.proofs.Accepted.{counts_same}
 use Rattle.dearest.proofs.counts.check_counts.Goals as goal
 

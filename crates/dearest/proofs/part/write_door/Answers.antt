@@ -4,10 +4,9 @@ use mathlib.Core.List.{[], ◌∷◌}
 use Prim.Native.Nat.{◌+◌, ◌-◌}
 use borrow.Author.Rules.{rules}
 use Rattle.files.specs.Field.{node_word, edge_word}
-use Rattle.files.specs.Limits.{part_words}
 use Rattle.sets.proofs.Spans.{each}
 use Rattle.output.proofs.Writing.{behind}
-use Rattle.output.proofs.Spanning.{Spanning, spanning_first, spanning_word, spanning_last}
+use Rattle.output.proofs.Spanning.{spanning_first, spanning_word, spanning_last}
 use Rattle.dearest.proofs.Writing.{door_is}
 use Rattle.dearest.proofs.part.write_door.Goals as goal
 

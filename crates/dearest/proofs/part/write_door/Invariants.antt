@@ -1,14 +1,9 @@
 -- `dearest::part::write_door` meets its contract. Assumes nothing.
-use mathlib.Core.Bool.{true, false}
 use mathlib.Core.List.{[], ◌∷◌}
 use Prim.Native.Nat.{◌+◌, ◌-◌}
-use borrow.Author.Rules.{rules}
-use Rattle.files.specs.Field.{node_word, edge_word}
+use Rattle.files.specs.Field.{edge_word}
 use Rattle.files.specs.Limits.{part_words}
-use Rattle.sets.proofs.Spans.{each}
-use Rattle.output.proofs.Writing.{behind}
-use Rattle.output.proofs.Spanning.{Spanning, spanning_first, spanning_word, spanning_last}
-use Rattle.dearest.proofs.Writing.{door_is}
+use Rattle.output.proofs.Spanning.{Spanning}
 use Rattle.dearest.proofs.part.write_door.Given as goal
 
 abbrev pub invariant-loop-t : goal.invariant-loop-t

@@ -3,9 +3,7 @@ use mathlib.Core.Path.{◌≡◌}
 use Prim.Native.Nat.{◌-◌}
 use native.Mathlib.Omega.{arith}
 use borrow.Author.Rules.{rules}
-use Rattle.files.specs.Limits.{part_words}
-use Rattle.output.proofs.Spanning.{Spanning, spanning_first, spanning_more, spanning_last}
-use Rattle.dearest.specs.Dearest.{dear_door}
+use Rattle.output.proofs.Spanning.{spanning_first, spanning_more, spanning_last}
 use Rattle.dearest.proofs.part.write_doors.Goals as goal
 
 pub loop-x-init : goal.loop-x-init

@@ -1,10 +1,7 @@
 -- `dearest::part::write_doors` meets its contract. Assumes nothing.
-use mathlib.Core.Path.{◌≡◌}
 use Prim.Native.Nat.{◌-◌}
-use native.Mathlib.Omega.{arith}
-use borrow.Author.Rules.{rules}
 use Rattle.files.specs.Limits.{part_words}
-use Rattle.output.proofs.Spanning.{Spanning, spanning_first, spanning_more, spanning_last}
+use Rattle.output.proofs.Spanning.{Spanning}
 use Rattle.dearest.specs.Dearest.{dear_door}
 use Rattle.dearest.proofs.part.write_doors.Given as goal
 

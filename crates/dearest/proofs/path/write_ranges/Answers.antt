@@ -3,10 +3,9 @@ use mathlib.Core.List.{[], ◌∷◌}
 use Prim.Native.Nat.{◌+◌, ◌-◌}
 use borrow.Author.Rules.{rules}
 use Rattle.files.specs.Path.{operator_word}
-use Rattle.files.specs.Limits.{path_words}
 use Rattle.sets.proofs.Spans.{each}
 use Rattle.output.proofs.Writing.{behind}
-use Rattle.output.proofs.Spanning.{Spanning, spanning_first, spanning_more, spanning_last}
+use Rattle.output.proofs.Spanning.{spanning_first, spanning_more, spanning_last}
 use Rattle.dearest.specs.Answer.{range_of}
 use Rattle.dearest.proofs.Writing.{ranges_are}
 use Rattle.dearest.proofs.path.write_ranges.Goals as goal

@@ -1,5 +1,4 @@
 -- `desks::stand::enter` meets its contract. Assumes nothing.
-use borrow.Author.Rules.{rules}
 use mathlib.Core.Path.{refl}
 use Rattle.desks.proofs.Standing.{entered}
 use Rattle.desks.proofs.stand.enter.Goals as goal

@@ -1,5 +1,4 @@
 -- `desks::stand::erase` meets its contract. Assumes nothing.
-use borrow.Author.Rules.{rules}
 use Rattle.desks.proofs.Standing.{erased}
 use Rattle.desks.proofs.stand.erase.Goals as goal
 

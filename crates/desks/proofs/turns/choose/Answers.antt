@@ -1,5 +1,4 @@
 -- `desks::turns::choose` meets its contract. Assumes nothing.
-use borrow.Author.Rules.{rules}
 use Rattle.desks.proofs.Turning.{file_asked, asked_small, short_kept, gets_short, gets_long, gets_nothing}
 use Rattle.desks.proofs.turns.choose.Goals as goal
 

@@ -1,5 +1,4 @@
 -- `desks::turns::lay` meets its contract. Assumes nothing.
-use borrow.Author.Rules.{rules}
 use native.Mathlib.Omega.{arith}
 use Rattle.desks.proofs.Turning.{file_asked, asked_small, next_here, lays_in, lays_out}
 use Rattle.desks.proofs.turns.lay.Goals as goal

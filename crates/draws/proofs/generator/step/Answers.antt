@@ -1,5 +1,4 @@
 -- `draws::generator::step` meets its contract. Assumes nothing.
-use Rattle.std.proofs.Common.{rules}
 use Rattle.draws.proofs.Wrapping.{wrapped_add}
 use Rattle.draws.proofs.generator.step.Goals as goal
 

@@ -1,11 +1,7 @@
 -- `eight_replies::rounds::choose_rest` meets its contract. Assumes nothing.
 use borrow.Author.Rules.{rules}
-use Prim.Native.Nat.{◌-◌}
 use native.Mathlib.Omega.{arith}
-use mathlib.Core.Path.{◌≡◌, refl}
-use lib.ListN.{length}
-use Rattle.desks.specs.Owns.{owns}
-use Rattle.eight_replies.specs.Rounds.{Stood}
+use mathlib.Core.Path.{refl}
 use Rattle.eight_replies.proofs.Laying.{same_asking, may_choose, stood_more, stood_last}
 use Rattle.eight_replies.proofs.rounds.choose_rest.Goals as goal
 

@@ -1,12 +1,9 @@
 -- `eight_replies::rounds::choose_rest` meets its contract. Assumes nothing.
-use borrow.Author.Rules.{rules}
 use Prim.Native.Nat.{◌-◌}
-use native.Mathlib.Omega.{arith}
-use mathlib.Core.Path.{◌≡◌, refl}
+use mathlib.Core.Path.{◌≡◌}
 use lib.ListN.{length}
 use Rattle.desks.specs.Owns.{owns}
 use Rattle.eight_replies.specs.Rounds.{Stood}
-use Rattle.eight_replies.proofs.Laying.{same_asking, may_choose, stood_more, stood_last}
 use Rattle.eight_replies.proofs.rounds.choose_rest.Given as goal
 
 abbrev pub invariant-loop-s : goal.invariant-loop-s

@@ -1,10 +1,6 @@
 -- `eight_replies::rounds::lay_all` meets its contract. Assumes nothing.
-use borrow.Author.Rules.{rules}
-use Prim.Native.Nat.{◌-◌}
-use mathlib.Core.Path.{◌≡◌, refl, ◌∙◌}
-use lib.ListN.{length}
-use Rattle.desks.specs.Owns.{owns}
-use Rattle.eight_replies.proofs.Laying.{same_asking, files_few, Laying, laying_first, may_lay, laying_more, laying_last}
+use mathlib.Core.Path.{refl, ◌∙◌}
+use Rattle.eight_replies.proofs.Laying.{same_asking, files_few, laying_first, may_lay, laying_more, laying_last}
 use Rattle.eight_replies.proofs.rounds.lay_all.Goals as goal
 
 pub loop-i-init : goal.loop-i-init

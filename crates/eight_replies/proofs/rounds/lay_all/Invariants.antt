@@ -1,10 +1,9 @@
 -- `eight_replies::rounds::lay_all` meets its contract. Assumes nothing.
-use borrow.Author.Rules.{rules}
 use Prim.Native.Nat.{◌-◌}
-use mathlib.Core.Path.{◌≡◌, refl, ◌∙◌}
+use mathlib.Core.Path.{◌≡◌}
 use lib.ListN.{length}
 use Rattle.desks.specs.Owns.{owns}
-use Rattle.eight_replies.proofs.Laying.{same_asking, files_few, Laying, laying_first, may_lay, laying_more, laying_last}
+use Rattle.eight_replies.proofs.Laying.{Laying}
 use Rattle.eight_replies.proofs.rounds.lay_all.Given as goal
 
 abbrev pub invariant-loop-i : goal.invariant-loop-i

@@ -2,7 +2,6 @@
 -- `Entering`. Assumes nothing.
 use mathlib.Core.Path.{sym, ◌∙◌}
 use native.Mathlib.Nat.{pos_of_ne-zero}
-use borrow.Author.Rules.{rules}
 use native.Mathlib.Omega.{arith}
 use Rattle.entering.proofs.Entering.{enter_none, gained_roomy, gained_waiting, enter_outer, enter_node}
 use Rattle.entering.proofs.enter.enter.Goals as goal

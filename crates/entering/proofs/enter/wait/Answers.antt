@@ -1,6 +1,5 @@
 -- `enter::wait` meets its contract. The node waits already, or goes on top of the stack; the laws are in `Entering`. Assumes nothing.
 use Prim.Native.Nat.{◌+◌, ◌<◌}
-use borrow.Author.Rules.{rules}
 use native.Mathlib.Omega.{arith}
 use Rattle.files.specs.Limits.{part_words}
 use Rattle.entering.proofs.Entering.{wait_again, wait_room, wait_first}

@@ -2,18 +2,16 @@
 -- nodes that wait. Assumes nothing.
 use mathlib.Core.Path.{◌≡◌, sym, ◌∙◌}
 use mathlib.Core.Bool.{true}
-use Prim.Native.Nat.{◌≤◌, ◌<◌, ◌-◌}
-use borrow.Author.Rules.{rules}
+use Prim.Native.Nat.{◌≤◌, ◌<◌}
 use native.Mathlib.Omega.{arith}
 use lib.ListN.{length}
 use Rattle.files.specs.Word.{words}
 use Rattle.files.specs.Limits.{part_words, work_bytes}
 use Rattle.slots.specs.Slots.{edge_at}
-use Rattle.entering.specs.Entering.{Hit, Walked, Waiting}
 use Rattle.slots.proofs.Storing.{roomy_kept}
 use Rattle.entering.proofs.Entering.{walk_none, walk_more, walk_same}
 use Rattle.slots.proofs.Places.{edge_below, edge_no_node}
-use Rattle.entering.proofs.Walking.{Run, run_none, run_more, hit_none, hit_more, hit_all}
+use Rattle.entering.proofs.Walking.{run_none, run_more, hit_none, hit_more, hit_all}
 use Rattle.entering.proofs.enter.walk.Goals.{In-loop-work}
 use Rattle.entering.proofs.enter.walk.Goals as goal
 

@@ -1,19 +1,10 @@
 -- `enter::walk` meets its contract. The invariant: the words from i to x are edge words, their slots were entered, and the stack holds the
 -- nodes that wait. Assumes nothing.
-use mathlib.Core.Path.{◌≡◌, sym, ◌∙◌}
-use mathlib.Core.Bool.{true}
-use Prim.Native.Nat.{◌≤◌, ◌<◌, ◌-◌}
-use borrow.Author.Rules.{rules}
-use native.Mathlib.Omega.{arith}
+use Prim.Native.Nat.{◌-◌}
 use lib.ListN.{length}
 use Rattle.files.specs.Word.{words}
-use Rattle.files.specs.Limits.{part_words, work_bytes}
-use Rattle.slots.specs.Slots.{edge_at}
 use Rattle.entering.specs.Entering.{Hit, Walked, Waiting}
-use Rattle.slots.proofs.Storing.{roomy_kept}
-use Rattle.entering.proofs.Entering.{walk_none, walk_more, walk_same}
-use Rattle.slots.proofs.Places.{edge_below, edge_no_node}
-use Rattle.entering.proofs.Walking.{Run, run_none, run_more, hit_none, hit_more, hit_all}
+use Rattle.entering.proofs.Walking.{Run}
 use Rattle.entering.proofs.enter.walk.Given as goal
 
 abbrev pub invariant-loop-work : goal.invariant-loop-work

@@ -1,9 +1,7 @@
 -- `files::buffer::clear` meets its contract.
 -- Assumes nothing.
 use borrow.Author.Rules.{rules}
-use Prim.Native.Nat.{◌-◌}
-use lib.ListN.{length}
-use Rattle.files.proofs.Buffers.{Filling, filling_none, filling_more, filling_all}
+use Rattle.files.proofs.Buffers.{filling_none, filling_more, filling_all}
 use Rattle.files.proofs.buffer.clear.Goals as goal
 
 pub loop-i-init : goal.loop-i-init

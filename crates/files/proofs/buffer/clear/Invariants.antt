@@ -1,9 +1,8 @@
 -- `files::buffer::clear` meets its contract.
 -- Assumes nothing.
-use borrow.Author.Rules.{rules}
 use Prim.Native.Nat.{◌-◌}
 use lib.ListN.{length}
-use Rattle.files.proofs.Buffers.{Filling, filling_none, filling_more, filling_all}
+use Rattle.files.proofs.Buffers.{Filling}
 use Rattle.files.proofs.buffer.clear.Given as goal
 
 abbrev pub invariant-loop-i : goal.invariant-loop-i

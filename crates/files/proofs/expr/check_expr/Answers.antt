@@ -1,6 +1,5 @@
 -- `files::expr::check_expr` meets its contract.
 -- Assumes nothing.
-use borrow.Author.Rules.{rules}
 use Rattle.files.proofs.expr.check_expr.Goals as goal
 
 pub returns : goal.returns

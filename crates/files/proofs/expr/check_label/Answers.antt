@@ -1,6 +1,5 @@
 -- `files::expr::check_label` meets its contract.
 -- Assumes nothing.
-use borrow.Author.Rules.{rules}
 use Rattle.files.proofs.expr.check_label.Goals as goal
 
 pub returns : goal.returns

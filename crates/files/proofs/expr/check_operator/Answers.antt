@@ -1,6 +1,5 @@
 -- `files::expr::check_operator` meets its contract.
 -- Assumes nothing.
-use borrow.Author.Rules.{rules}
 use Rattle.files.proofs.expr.check_operator.Goals as goal
 
 pub returns : goal.returns

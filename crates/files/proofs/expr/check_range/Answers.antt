@@ -1,6 +1,5 @@
 -- `files::expr::check_range` meets its contract.
 -- Assumes nothing.
-use borrow.Author.Rules.{rules}
 use Rattle.files.proofs.expr.check_range.Goals as goal
 
 pub returns : goal.returns

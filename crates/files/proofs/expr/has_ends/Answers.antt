@@ -1,6 +1,5 @@
 -- `files::expr::has_ends` meets its contract.
 -- Assumes nothing.
-use borrow.Author.Rules.{rules}
 use Rattle.files.proofs.expr.has_ends.Goals as goal
 
 pub returns : goal.returns

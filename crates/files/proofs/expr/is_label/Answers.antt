@@ -1,6 +1,5 @@
 -- `files::expr::is_label` meets its contract.
 -- Assumes nothing.
-use borrow.Author.Rules.{rules}
 use Rattle.files.proofs.expr.is_label.Goals as goal
 
 pub returns : goal.returns

@@ -1,6 +1,5 @@
 -- `files::expr::is_range` meets its contract.
 -- Assumes nothing.
-use borrow.Author.Rules.{rules}
 use Rattle.files.proofs.expr.is_range.Goals as goal
 
 pub returns : goal.returns

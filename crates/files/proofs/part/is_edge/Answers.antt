@@ -1,6 +1,5 @@
 -- `files::part::is_edge` meets its contract.
 -- Assumes nothing.
-use borrow.Author.Rules.{rules}
 use Rattle.files.proofs.part.is_edge.Goals as goal
 
 pub returns : goal.returns

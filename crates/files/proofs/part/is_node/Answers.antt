@@ -1,6 +1,5 @@
 -- `files::part::is_node` meets its contract.
 -- Assumes nothing.
-use borrow.Author.Rules.{rules}
 use Rattle.files.proofs.part.is_node.Goals as goal
 
 pub returns : goal.returns

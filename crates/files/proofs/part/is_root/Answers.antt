@@ -1,6 +1,5 @@
 -- `files::part::is_root` meets its contract.
 -- Assumes nothing.
-use borrow.Author.Rules.{rules}
 use Rattle.files.proofs.part.is_root.Goals as goal
 
 pub returns : goal.returns

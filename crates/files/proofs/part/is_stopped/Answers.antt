@@ -1,6 +1,5 @@
 -- `files::part::is_stopped` meets its contract.
 -- Assumes nothing.
-use borrow.Author.Rules.{rules}
 use Rattle.files.proofs.part.is_stopped.Goals as goal
 
 pub returns : goal.returns

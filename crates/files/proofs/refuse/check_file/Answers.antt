@@ -1,6 +1,5 @@
 -- `files::refuse::check_file` meets its contract.
 -- Assumes nothing.
-use borrow.Author.Rules.{rules}
 use Rattle.files.proofs.refuse.check_file.Goals as goal
 
 pub returns : goal.returns

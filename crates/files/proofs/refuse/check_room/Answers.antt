@@ -1,6 +1,5 @@
 -- `files::refuse::check_room` meets its contract.
 -- Assumes nothing.
-use borrow.Author.Rules.{rules}
 use Rattle.files.proofs.Checks.{room_same}
 use Rattle.files.proofs.refuse.check_room.Goals as goal
 

@@ -1,6 +1,5 @@
 -- `files::reply::is_door_word` meets its contract.
 -- Assumes nothing.
-use borrow.Author.Rules.{rules}
 use Rattle.files.proofs.reply.is_door_word.Goals as goal
 
 pub returns : goal.returns

@@ -1,8 +1,6 @@
 -- `from_triples::ends::add_all` meets its contract. Assumes nothing.
 use borrow.Author.Rules.{rules}
-use Prim.Native.Nat.{◌-◌}
-use Rattle.files.specs.Word.{words}
-use Rattle.from_triples.proofs.Ending.{Gathering, gathering_first, gathering_more, gathering_last}
+use Rattle.from_triples.proofs.Ending.{gathering_first, gathering_more, gathering_last}
 use Rattle.from_triples.proofs.ends.add_all.Goals as goal
 
 pub loop-i-init : goal.loop-i-init

@@ -1,8 +1,7 @@
 -- `from_triples::ends::add_all` meets its contract. Assumes nothing.
-use borrow.Author.Rules.{rules}
 use Prim.Native.Nat.{◌-◌}
 use Rattle.files.specs.Word.{words}
-use Rattle.from_triples.proofs.Ending.{Gathering, gathering_first, gathering_more, gathering_last}
+use Rattle.from_triples.proofs.Ending.{Gathering}
 use Rattle.from_triples.proofs.ends.add_all.Given as goal
 
 abbrev pub invariant-loop-i : goal.invariant-loop-i

@@ -1,5 +1,4 @@
 -- `from_triples::ends::add_ends` meets its contract. Assumes nothing.
-use borrow.Author.Rules.{rules}
 use Rattle.from_triples.proofs.Ending.{ends_added}
 use Rattle.from_triples.proofs.ends.add_ends.Goals as goal
 

@@ -1,5 +1,4 @@
 -- `generator::call::check_bounds` meets its contract. Assumes nothing.
-use borrow.Author.Rules.{rules}
 use Rattle.generator.proofs.call.check_bounds.Goals as goal
 
 pub returns : goal.returns

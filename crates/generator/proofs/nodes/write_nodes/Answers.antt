@@ -1,8 +1,7 @@
 -- `generator::nodes::write_nodes` meets its contract. Assumes nothing.
-use Prim.Native.Nat.{◌-◌}
 use native.Mathlib.Omega.{arith}
 use borrow.Author.Rules.{rules}
-use Rattle.generator.proofs.Writing.{Noding, noding_none, noding_more, noding_last}
+use Rattle.generator.proofs.Writing.{noding_none, noding_more, noding_last}
 use Rattle.generator.proofs.nodes.write_nodes.Goals as goal
 
 pub loop-x-init : goal.loop-x-init

@@ -1,8 +1,6 @@
 -- `generator::nodes::write_nodes` meets its contract. Assumes nothing.
 use Prim.Native.Nat.{◌-◌}
-use native.Mathlib.Omega.{arith}
-use borrow.Author.Rules.{rules}
-use Rattle.generator.proofs.Writing.{Noding, noding_none, noding_more, noding_last}
+use Rattle.generator.proofs.Writing.{Noding}
 use Rattle.generator.proofs.nodes.write_nodes.Given as goal
 
 abbrev pub invariant-loop-x : goal.invariant-loop-x

@@ -1,10 +1,6 @@
 -- `generator::nodes::write_words` meets its contract. Assumes nothing.
-use mathlib.Core.List.{[], ◌∷◌}
-use Prim.Native.Nat.{◌-◌}
 use borrow.Author.Rules.{rules}
-use lib.ListN.{get_or}
-use Rattle.files.specs.Limits.{part_words}
-use Rattle.output.proofs.Spanning.{Spanning, spanning_first, spanning_more}
+use Rattle.output.proofs.Spanning.{spanning_first, spanning_more}
 use Rattle.generator.proofs.Writing.{front_written}
 use Rattle.generator.proofs.nodes.write_words.Goals as goal
 

@@ -1,11 +1,9 @@
 -- `generator::nodes::write_words` meets its contract. Assumes nothing.
 use mathlib.Core.List.{[], ◌∷◌}
 use Prim.Native.Nat.{◌-◌}
-use borrow.Author.Rules.{rules}
 use lib.ListN.{get_or}
 use Rattle.files.specs.Limits.{part_words}
-use Rattle.output.proofs.Spanning.{Spanning, spanning_first, spanning_more}
-use Rattle.generator.proofs.Writing.{front_written}
+use Rattle.output.proofs.Spanning.{Spanning}
 use Rattle.generator.proofs.nodes.write_words.Given as goal
 
 abbrev pub invariant-loop-i : goal.invariant-loop-i

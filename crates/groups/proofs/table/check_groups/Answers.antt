@@ -1,11 +1,8 @@
 -- `groups::table::check_groups` meets its contract. The invariant: a word that is no range stands among all just if one is left. Assumes nothing.
 use borrow.Author.Rules.{rules}
-use Prim.Native.Nat.{◌-◌}
 use native.Mathlib.Omega.{arith}
-use lib.ListN.{length}
-use Rattle.files.specs.Word.{words}
 use Rattle.files.proofs.Reading.{fewer}
-use Rattle.groups.proofs.Grouping.{Ranging, not_eight, ranging_first, ranging_more, ranging_wrong, ranging_last}
+use Rattle.groups.proofs.Grouping.{not_eight, ranging_first, ranging_more, ranging_wrong, ranging_last}
 use Rattle.groups.proofs.table.check_groups.Goals as goal
 
 pub returns-then-groups-ne-BYTES : goal.returns-then-groups-ne-BYTES

@@ -1,8 +1,6 @@
--- `hub_search::enter::enter` meets its contract. Landmarks, nearest first: whether the word behind the door is of its rows, that word, the state put
--- into the table, the set with it, the test whether it was there, the states that were.
+-- `hub_search::enter::enter` meets its contract.
 -- Assumes nothing.
 use mathlib.Core.Path.{sym, ◌∙◌}
-use borrow.Author.Rules.{rules}
 use native.Mathlib.Omega.{arith}
 use Rattle.files.specs.Word.{words}
 use Rattle.sets.proofs.Cases.{and_intro}

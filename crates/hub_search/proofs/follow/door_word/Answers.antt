@@ -1,6 +1,5 @@
 -- `hub_search::follow::door_word` meets its contract.
 -- Assumes nothing.
-use borrow.Author.Rules.{rules}
 use Rattle.hub_search.proofs.follow.door_word.Goals as goal
 
 pub returns : goal.returns

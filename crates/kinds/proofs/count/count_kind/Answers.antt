@@ -1,13 +1,8 @@
 -- `kinds::count::count_kind` meets its contract.
 -- Assumes nothing.
 use borrow.Author.Rules.{rules}
-use Prim.Native.Nat.{◌-◌}
-use lib.ListN.{length, drop}
-use Rattle.sets.specs.Sets.{filter}
-use Rattle.files.specs.Word.{words}
 use Rattle.files.proofs.Reading.{fewer}
-use Rattle.files.proofs.Counts.{Counting, counting_first, counting_one, counting_fits, counting_none, counting_last}
-use Rattle.kinds.specs.Kinds.{of_kind}
+use Rattle.files.proofs.Counts.{counting_first, counting_one, counting_fits, counting_none, counting_last}
 use Rattle.kinds.proofs.count.count_kind.Goals as goal
 
 pub loop-w-init : goal.loop-w-init

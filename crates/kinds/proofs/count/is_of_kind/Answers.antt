@@ -1,6 +1,5 @@
 -- `kinds::count::is_of_kind` meets its contract.
 -- Assumes nothing.
-use borrow.Author.Rules.{rules}
 use Rattle.kinds.proofs.count.is_of_kind.Goals as goal
 
 pub returns-in-Any : goal.returns-in-Any

@@ -1,12 +1,9 @@
 -- `kinds::find::find_kind` meets its contract. Assumes nothing.
-use borrow.Author.Rules.{rules}
 use Prim.Native.Nat.{◌-◌, ◌/◌}
 use lib.ListN.{length}
 use Rattle.files.specs.Word.{words}
-use Rattle.files.proofs.Words.{words_length}
 use Rattle.kinds.specs.Kinds.{of_kind}
 use Rattle.kinds.specs.Seek.{NoneBefore}
-use Rattle.kinds.proofs.Seeking.{none_first, none_more, first_found, first_none}
 use Rattle.kinds.proofs.find.find_kind.Given as goal
 
 abbrev pub invariant-loop-i : goal.invariant-loop-i

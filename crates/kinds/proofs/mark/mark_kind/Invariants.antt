@@ -1,11 +1,9 @@
 -- `kinds::mark::mark_kind` meets its contract.
 -- Assumes nothing.
-use borrow.Author.Rules.{rules}
 use Prim.Native.Nat.{◌-◌}
 use lib.ListN.{length}
 use Rattle.files.specs.Word.{words}
-use Rattle.files.proofs.Reading.{fewer}
-use Rattle.kinds.proofs.Marking.{Marking, marking_first, marking_more, marking_last}
+use Rattle.kinds.proofs.Marking.{Marking}
 use Rattle.kinds.proofs.mark.mark_kind.Given as goal
 
 abbrev pub invariant-loop-w : goal.invariant-loop-w

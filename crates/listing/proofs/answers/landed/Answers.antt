@@ -1,5 +1,4 @@
 -- `listing::answers::landed` meets its contract. Assumes nothing.
-use borrow.Author.Rules.{rules}
 use Rattle.listing.specs.Listing.{lands}
 use Rattle.listing.proofs.answers.landed.Goals as goal
 

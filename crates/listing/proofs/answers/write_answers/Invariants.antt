@@ -1,13 +1,9 @@
 -- `listing::answers::write_answers` meets its contract. Assumes nothing.
-use borrow.Author.Rules.{rules}
 use Prim.Native.Nat.{◌-◌, ◌≤◌}
-use native.Mathlib.Omega.{arith}
 use lib.ListN.{length}
 use Rattle.files.specs.Word.{words}
-use Rattle.files.proofs.Words.{words_length}
 use Rattle.output.proofs.Writing.{Adding}
 use Rattle.listing.specs.Listing.{answer_words}
-use Rattle.listing.proofs.Answering.{answers_none, answers_more, answers_all}
 use Rattle.listing.proofs.answers.write_answers.Given as goal
 
 abbrev pub invariant-loop-i : goal.invariant-loop-i

@@ -2,9 +2,8 @@
 use mathlib.Core.Path.{refl}
 use mathlib.Core.List.{[]}
 use borrow.Author.Rules.{rules}
-use Prim.Native.Nat.{◌-◌, ◌≤◌}
 use native.Mathlib.Omega.{arith}
-use Rattle.listing.proofs.Rowing.{Counting, counting_more, counting_all, states_few, pairs_few}
+use Rattle.listing.proofs.Rowing.{counting_more, counting_all, states_few, pairs_few}
 use Rattle.listing.proofs.rows.row_length.Goals as goal
 
 pub loop-k-init : goal.loop-k-init

@@ -1,10 +1,6 @@
 -- `listing::rows::row_length` meets its contract. Assumes nothing.
-use mathlib.Core.Path.{refl}
-use mathlib.Core.List.{[]}
-use borrow.Author.Rules.{rules}
 use Prim.Native.Nat.{◌-◌, ◌≤◌}
-use native.Mathlib.Omega.{arith}
-use Rattle.listing.proofs.Rowing.{Counting, counting_more, counting_all, states_few, pairs_few}
+use Rattle.listing.proofs.Rowing.{Counting}
 use Rattle.listing.proofs.rows.row_length.Given as goal
 
 abbrev pub invariant-loop-k : goal.invariant-loop-k

@@ -1,12 +1,7 @@
 -- `listing::rows::write_targets` meets its contract. Assumes nothing.
 use borrow.Author.Rules.{rules}
-use mathlib.Core.List.{map}
-use Prim.Native.Nat.{◌-◌, ◌≤◌}
 use native.Mathlib.Omega.{arith}
-use Rattle.files.specs.Word.{words}
-use Rattle.files.specs.Field.{reach_word}
-use Rattle.output.proofs.Writing.{Adding, adding_none}
-use Rattle.listing.specs.Rows.{pairs_up_to}
+use Rattle.output.proofs.Writing.{adding_none}
 use Rattle.listing.proofs.Rowing.{targets_more, targets_all}
 use Rattle.listing.proofs.rows.write_targets.Goals as goal
 

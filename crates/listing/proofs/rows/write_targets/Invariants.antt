@@ -1,13 +1,10 @@
 -- `listing::rows::write_targets` meets its contract. Assumes nothing.
-use borrow.Author.Rules.{rules}
 use mathlib.Core.List.{map}
 use Prim.Native.Nat.{◌-◌, ◌≤◌}
-use native.Mathlib.Omega.{arith}
 use Rattle.files.specs.Word.{words}
 use Rattle.files.specs.Field.{reach_word}
-use Rattle.output.proofs.Writing.{Adding, adding_none}
+use Rattle.output.proofs.Writing.{Adding}
 use Rattle.listing.specs.Rows.{pairs_up_to}
-use Rattle.listing.proofs.Rowing.{targets_more, targets_all}
 use Rattle.listing.proofs.rows.write_targets.Given as goal
 
 abbrev pub invariant-loop-k : goal.invariant-loop-k

@@ -1,6 +1,5 @@
 -- `lists::ascending::check_alone` meets its contract.
 -- Assumes nothing.
-use borrow.Author.Rules.{rules}
 use Rattle.lists.proofs.ascending.check_alone.Goals as goal
 
 pub returns-in-Calls : goal.returns-in-Calls

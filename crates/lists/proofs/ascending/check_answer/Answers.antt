@@ -1,6 +1,5 @@
 -- `lists::ascending::check_answer` meets its contract.
 -- Assumes nothing.
-use borrow.Author.Rules.{rules}
 use Rattle.lists.proofs.ascending.check_answer.Goals as goal
 
 pub returns : goal.returns

@@ -1,14 +1,9 @@
 -- `lists::ascending::check_ascending` meets its contract.
 -- Assumes nothing.
 use borrow.Author.Rules.{rules}
-use Prim.Native.Nat.{◌-◌}
 use mathlib.Core.Path.{refl}
-use lib.ListN.{length, drop}
-use Rattle.files.specs.Word.{words}
-use Rattle.files.specs.Scan.{in_order, scan_ordered}
-use Rattle.lists.specs.Listed.{alone_check}
 use Rattle.files.proofs.Reading.{fewer}
-use Rattle.files.proofs.Scans.{Scanning, scanning_refused, scanning_more, scanning_last}
+use Rattle.files.proofs.Scans.{scanning_refused, scanning_more, scanning_last}
 use Rattle.lists.proofs.ascending.check_ascending.Goals as goal
 
 pub loop-w-init : goal.loop-w-init

@@ -1,6 +1,5 @@
 -- `lists::ascending::check_word` meets its contract.
 -- Assumes nothing.
-use borrow.Author.Rules.{rules}
 use Rattle.lists.proofs.ascending.check_word.Goals as goal
 
 pub returns : goal.returns

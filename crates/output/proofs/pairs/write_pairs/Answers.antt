@@ -1,6 +1,6 @@
 -- `output::pairs::write_pairs` meets its contract. Assumes nothing.
 use borrow.Author.Rules.{rules}
-use Rattle.output.proofs.Spelling.{Spelling, spelling_none, spelling_more, spelling_all}
+use Rattle.output.proofs.Spelling.{spelling_none, spelling_more, spelling_all}
 use Rattle.output.proofs.pairs.write_pairs.Goals as goal
 
 pub loop-s-init : goal.loop-s-init

@@ -1,6 +1,5 @@
 -- `output::pairs::write_pairs` meets its contract. Assumes nothing.
-use borrow.Author.Rules.{rules}
-use Rattle.output.proofs.Spelling.{Spelling, spelling_none, spelling_more, spelling_all}
+use Rattle.output.proofs.Spelling.{Spelling}
 use Rattle.output.proofs.pairs.write_pairs.Given as goal
 
 abbrev pub invariant-loop-s : goal.invariant-loop-s

@@ -1,6 +1,5 @@
 -- `search::forget` meets its contract: a node word has marks in two tables, an edge word in one. Assumes nothing.
 use mathlib.Core.Path.{sym, ◌∙◌}
-use borrow.Author.Rules.{rules}
 use Rattle.part_search.proofs.Seeding.{forgot_node, forgot_edge}
 use Rattle.part_search.proofs.search.forget.Goals as goal
 

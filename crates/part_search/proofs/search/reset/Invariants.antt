@@ -1,12 +1,7 @@
 -- `search::reset` meets its contract. The invariant: the positions below i have no marks. Assumes nothing.
-use Prim.Native.Nat.{◌≤◌, ◌<◌, ◌-◌}
-use borrow.Author.Rules.{rules}
-use native.Mathlib.Omega.{arith}
-use lib.ListN.{length}
+use Prim.Native.Nat.{◌≤◌, ◌-◌}
 use Rattle.files.specs.Word.{words}
-use Rattle.files.proofs.Words.{words_length}
-use Rattle.files.specs.Limits.{part_words, work_bytes}
-use Rattle.part_search.proofs.Seeding.{Forgetting, forget_none, forget_more, forget_all}
+use Rattle.part_search.proofs.Seeding.{Forgetting}
 use Rattle.part_search.proofs.search.reset.Given as goal
 
 abbrev pub invariant-loop-i : goal.invariant-loop-i

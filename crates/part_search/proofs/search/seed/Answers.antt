@@ -1,5 +1,4 @@
 -- `search::seed` meets its contract: the node is entered in the one state. Assumes nothing.
-use borrow.Author.Rules.{rules}
 use Rattle.part_search.proofs.Seeding.{seeded}
 use Rattle.slots.proofs.Places.{node_below}
 use Rattle.part_search.proofs.search.seed.Goals as goal

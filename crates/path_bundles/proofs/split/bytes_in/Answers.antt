@@ -1,5 +1,4 @@
 -- `path_bundles::split::bytes_in` meets its contract. Assumes nothing.
-use borrow.Author.Rules.{rules}
 use Rattle.path_bundles.proofs.split.bytes_in.Goals as goal
 
 pub returns : goal.returns

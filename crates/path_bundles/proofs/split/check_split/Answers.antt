@@ -1,5 +1,4 @@
 -- `path_bundles::split::check_split` meets its contract. Assumes nothing.
-use borrow.Author.Rules.{rules}
 use Rattle.path_bundles.proofs.split.check_split.Goals as goal
 
 pub returns : goal.returns

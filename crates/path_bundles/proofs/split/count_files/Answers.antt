@@ -1,7 +1,6 @@
 -- `path_bundles::split::count_files` meets its contract. Assumes nothing.
 use borrow.Author.Rules.{rules}
-use Prim.Native.Nat.{◌-◌}
-use Rattle.path_bundles.proofs.Places.{Counting, counting_first, counting_fits, counting_less, counting_more, counting_last}
+use Rattle.path_bundles.proofs.Places.{counting_first, counting_fits, counting_less, counting_more, counting_last}
 use Rattle.path_bundles.proofs.split.count_files.Goals as goal
 
 pub loop-count-init : goal.loop-count-init

@@ -1,7 +1,6 @@
 -- `path_bundles::split::file_at` meets its contract. Assumes nothing.
 use borrow.Author.Rules.{rules}
-use Rattle.path_bundles.specs.Place.{file_at}
-use Rattle.path_bundles.proofs.Places.{Going, going_first, going_more, going_last}
+use Rattle.path_bundles.proofs.Places.{going_first, going_more, going_last}
 use Rattle.path_bundles.proofs.split.file_at.Goals as goal
 
 pub loop-left-init : goal.loop-left-init

@@ -1,9 +1,6 @@
 -- `path_bundles::split::uses_up` meets its contract. Assumes nothing.
 use borrow.Author.Rules.{rules}
-use Prim.Native.Nat.{◌-◌}
-use lib.ListN.{length}
-use Rattle.path_bundles.specs.Split.{uses_up}
-use Rattle.path_bundles.proofs.Places.{Using, using_first, using_none, using_wrong, using_fits, using_less, using_more, using_last}
+use Rattle.path_bundles.proofs.Places.{using_first, using_none, using_wrong, using_fits, using_less, using_more, using_last}
 use Rattle.path_bundles.proofs.split.uses_up.Goals as goal
 
 pub loop-at-init : goal.loop-at-init

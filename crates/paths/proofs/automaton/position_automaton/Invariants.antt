@@ -1,12 +1,9 @@
 -- `automaton::position_automaton` meets its contract. The invariant: the words that are left make of what is built the automaton of the whole
 -- path. Assumes nothing.
 use Prim.Native.Nat.{◌-◌}
-use borrow.Author.Rules.{rules}
 use lib.ListN.{length}
 use Rattle.files.specs.Word.{words}
-use Rattle.files.proofs.Reading.{fewer}
-use Rattle.groups.proofs.Grouping.{value_ranges}
-use Rattle.paths.proofs.Words.{Reading, reading_first, reading_right, reading_applicable, reading_more, reading_last, by_value}
+use Rattle.paths.proofs.Words.{Reading}
 use Rattle.paths.proofs.automaton.position_automaton.Given as goal
 
 abbrev pub invariant-loop-w : goal.invariant-loop-w

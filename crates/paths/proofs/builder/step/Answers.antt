@@ -1,5 +1,4 @@
 -- `builder::step` meets its contract. Assumes nothing.
-use borrow.Author.Rules.{rules}
 use Rattle.files.proofs.Exprs.{wrong_told}
 use Rattle.paths.proofs.Building.{applicable_as, applicable_label, does_as, word_label, word_held, word_operator}
 use Rattle.paths.proofs.builder.step.Goals as goal

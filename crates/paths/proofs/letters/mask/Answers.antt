@@ -1,7 +1,7 @@
 -- `letters::mask` meets its contract. The invariant: what is gathered, with what the positions that are left still give, are the positions that
 -- read the label. Assumes nothing.
 use borrow.Author.Rules.{rules}
-use Rattle.paths.proofs.Lettering.{Masking, masking_first, masking_more, masking_last}
+use Rattle.paths.proofs.Lettering.{masking_first, masking_more, masking_last}
 use Rattle.paths.proofs.letters.mask.Goals as goal
 
 pub loop-s-init : goal.loop-s-init

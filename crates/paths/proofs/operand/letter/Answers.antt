@@ -1,5 +1,4 @@
 -- `operand::letter` meets its contract. Assumes nothing.
-use borrow.Author.Rules.{rules}
 use Rattle.paths.proofs.Operands.{letter_is}
 use Rattle.paths.proofs.operand.letter.Goals as goal
 

@@ -1,6 +1,5 @@
 -- `table::link` meets its contract. The invariant: the rows, with what the states that are left still give, are what the whole set gives. Assumes nothing.
-use borrow.Author.Rules.{rules}
-use Rattle.paths.proofs.Operands.{Linking, linking_first, linking_more, linking_last}
+use Rattle.paths.proofs.Operands.{Linking}
 use Rattle.paths.proofs.table.link.Given as goal
 
 abbrev pub invariant-loop-s : goal.invariant-loop-s

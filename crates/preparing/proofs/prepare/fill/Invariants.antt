@@ -1,16 +1,11 @@
 -- `prepare::fill` meets its contract. The invariant: the positions below x are filled, and it is known whether x is behind a stopped node.
 -- Assumes nothing.
-use mathlib.Core.Path.{◌≡◌, refl}
-use Prim.Native.Nat.{◌≤◌, ◌<◌, ◌-◌}
-use borrow.Author.Rules.{rules}
-use native.Mathlib.Omega.{arith}
-use lib.ListN.{length}
+use mathlib.Core.Path.{◌≡◌}
+use Prim.Native.Nat.{◌≤◌, ◌-◌}
 use Rattle.files.specs.Word.{words}
-use Rattle.files.proofs.Words.{words_length}
-use Rattle.files.specs.Limits.{part_words, work_bytes}
 use Rattle.paths.specs.Letters.{reads}
 use Rattle.slots.specs.Slots.{idle_at}
-use Rattle.preparing.proofs.Preparing.{Filling, fill_none, fill_more, fill_all}
+use Rattle.preparing.proofs.Preparing.{Filling}
 use Rattle.preparing.proofs.prepare.fill.Given as goal
 
 abbrev pub invariant-loop-x : goal.invariant-loop-x

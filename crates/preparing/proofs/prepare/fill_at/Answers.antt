@@ -1,7 +1,6 @@
 -- `prepare::fill_at` meets its contract. Assumes nothing.
 use mathlib.Core.Path.{sym, ap, ◌∙◌}
 use Prim.Native.Nat.{ℕ}
-use borrow.Author.Rules.{rules}
 use Rattle.files.specs.Field.{label_of}
 use Rattle.paths.specs.Letters.{reads}
 use Rattle.preparing.proofs.Preparing.{fill_edge, fill_other}

@@ -1,5 +1,4 @@
 -- `prepare::is_exit` meets its contract. Assumes nothing.
-use borrow.Author.Rules.{rules}
 use Rattle.preparing.proofs.prepare.is_exit.Goals as goal
 
 pub returns : goal.returns

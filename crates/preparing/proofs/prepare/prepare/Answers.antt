@@ -1,5 +1,4 @@
 -- `prepare::prepare` meets its contract. Assumes nothing.
-use borrow.Author.Rules.{rules}
 use Rattle.preparing.proofs.Preparing.{prepared}
 use Rattle.preparing.proofs.prepare.prepare.Goals as goal
 

@@ -1,11 +1,9 @@
 -- `queries::path::check_body` meets its contract.
 -- Assumes nothing.
-use borrow.Author.Rules.{rules}
 use Prim.Native.Nat.{◌-◌}
 use lib.ListN.{length}
 use Rattle.files.specs.Word.{words}
-use Rattle.files.proofs.Reading.{fewer}
-use Rattle.queries.proofs.Paths.{Checking, checking_first, checking_refused, waits_some, waits_fits, checking_label, checking_fits, checking_other, checking_last}
+use Rattle.queries.proofs.Paths.{Checking}
 use Rattle.queries.proofs.path.check_body.Given as goal
 
 abbrev pub invariant-loop-w : goal.invariant-loop-w

@@ -1,8 +1,6 @@
 -- `queries::path::check_word` meets its contract. Past the test the word's case is one of the other two.
 -- Assumes nothing.
-use mathlib.Core.Logic.{⊎_elim}
 use borrow.Author.Rules.{rules}
-use native.Mathlib.Omega.{arith}
 use Rattle.queries.proofs.Paths.{word_wrong, word_right}
 use Rattle.queries.proofs.path.check_word.Goals as goal
 

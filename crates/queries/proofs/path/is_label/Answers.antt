@@ -1,7 +1,6 @@
 -- `queries::path::is_label` meets its contract.
 -- Assumes nothing.
 use mathlib.Core.Path.{sym}
-use borrow.Author.Rules.{rules}
 use Rattle.files.proofs.Exprs.{label_told, operator_told, wrong_told}
 use Rattle.queries.proofs.path.is_label.Goals as goal
 

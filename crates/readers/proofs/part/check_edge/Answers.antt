@@ -1,6 +1,5 @@
 -- `readers::part::check_edge` meets its contract.
 -- Assumes nothing.
-use borrow.Author.Rules.{rules}
 use Rattle.readers.proofs.part.check_edge.Goals as goal
 
 pub returns : goal.returns

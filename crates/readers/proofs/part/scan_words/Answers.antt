@@ -1,12 +1,8 @@
 -- `readers::part::scan_words` meets its contract.
 -- Assumes nothing.
 use borrow.Author.Rules.{rules}
-use Prim.Native.Nat.{◌-◌}
-use lib.ListN.{length, drop}
-use Rattle.files.specs.Word.{words}
-use Rattle.files.specs.Part.{start, next, word_check, scan}
 use Rattle.files.proofs.Reading.{fewer}
-use Rattle.files.proofs.Scans.{Scanning, scanning_refused, scanning_more, scanning_last}
+use Rattle.files.proofs.Scans.{scanning_refused, scanning_more, scanning_last}
 use Rattle.readers.proofs.part.scan_words.Goals as goal
 
 pub loop-w-init : goal.loop-w-init

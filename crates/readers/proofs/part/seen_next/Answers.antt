@@ -1,6 +1,5 @@
 -- `readers::part::seen_next` meets its contract.
 -- Assumes nothing.
-use borrow.Author.Rules.{rules}
 use native.Mathlib.Numerals.{add-one}
 use Rattle.files.specs.Field.{node_of}
 use Rattle.readers.proofs.part.seen_next.Goals as goal

@@ -1,6 +1,5 @@
 -- `replies::reply::check_end` meets its contract.
 -- Assumes nothing.
-use borrow.Author.Rules.{rules}
 use Rattle.replies.proofs.reply.check_end.Goals as goal
 
 pub returns : goal.returns

@@ -1,6 +1,5 @@
 -- `replies::reply::check_reach` meets its contract.
 -- Assumes nothing.
-use borrow.Author.Rules.{rules}
 use Rattle.replies.proofs.reply.check_reach.Goals as goal
 
 pub returns : goal.returns

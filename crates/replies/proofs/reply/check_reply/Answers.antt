@@ -1,12 +1,8 @@
 -- `replies::reply::check_reply` meets its contract.
 -- Assumes nothing.
 use borrow.Author.Rules.{rules}
-use Prim.Native.Nat.{◌-◌}
-use lib.ListN.{length, get_or, drop}
-use Rattle.files.specs.Word.{words}
-use Rattle.files.specs.Reply.{word_check, next, end_check, reply_check}
 use Rattle.files.proofs.Reading.{fewer}
-use Rattle.files.proofs.Scans.{Scanning, scanning_refused, scanning_more, scanning_last}
+use Rattle.files.proofs.Scans.{scanning_refused, scanning_more, scanning_last}
 use Rattle.files.proofs.Replies.{reply_first}
 use Rattle.replies.proofs.reply.check_reply.Goals as goal
 

@@ -1,6 +1,5 @@
 -- `replies::reply::check_row` meets its contract.
 -- Assumes nothing.
-use borrow.Author.Rules.{rules}
 use Rattle.replies.proofs.reply.check_row.Goals as goal
 
 pub returns : goal.returns

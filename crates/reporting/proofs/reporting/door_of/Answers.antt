@@ -1,5 +1,4 @@
 -- `reporting::reporting::door_of` meets its contract. Assumes nothing.
-use borrow.Author.Rules.{rules}
 use Rattle.reporting.proofs.reporting.door_of.Goals as goal
 
 pub returns : goal.returns

@@ -1,5 +1,4 @@
 -- `reporting::reporting::report_at` meets its contract. Assumes nothing.
-use borrow.Author.Rules.{rules}
 use Prim.Native.Nat.{◌<◌}
 use native.Mathlib.Omega.{arith}
 use Rattle.files.specs.Word.{words}

@@ -1,12 +1,9 @@
 -- `reporting::reporting::report_doors` meets its contract. Assumes nothing.
-use borrow.Author.Rules.{rules}
-use mathlib.Core.Path.{◌≡◌}
-use Prim.Native.Nat.{◌-◌, ◌≤◌}
 use native.Mathlib.Omega.{arith}
 use lib.ListN.{length}
 use Rattle.files.specs.Word.{words}
 use Rattle.files.proofs.Words.{words_length}
-use Rattle.reporting.specs.Reporting.{Reports, words_at, words_below, RunsAt}
+use Rattle.reporting.specs.Reporting.{words_at, words_below}
 use Rattle.reporting.proofs.Reports.{reports_none, reports_next, reports_end, may_report_again, words_next}
 use Rattle.reporting.proofs.Length.{runs_first, runs_next}
 use Rattle.reporting.proofs.reporting.report_doors.Goals as goal

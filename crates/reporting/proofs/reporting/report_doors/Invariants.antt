@@ -1,14 +1,9 @@
 -- `reporting::reporting::report_doors` meets its contract. Assumes nothing.
-use borrow.Author.Rules.{rules}
 use mathlib.Core.Path.{◌≡◌}
 use Prim.Native.Nat.{◌-◌, ◌≤◌}
-use native.Mathlib.Omega.{arith}
 use lib.ListN.{length}
 use Rattle.files.specs.Word.{words}
-use Rattle.files.proofs.Words.{words_length}
-use Rattle.reporting.specs.Reporting.{Reports, words_at, words_below, RunsAt}
-use Rattle.reporting.proofs.Reports.{reports_none, reports_next, reports_end, may_report_again, words_next}
-use Rattle.reporting.proofs.Length.{runs_first, runs_next}
+use Rattle.reporting.specs.Reporting.{Reports, words_below, RunsAt}
 use Rattle.reporting.proofs.reporting.report_doors.Given as goal
 
 -- Before position i the words of the positions below it stand in the output, and from 1, the header's word, the running length is the count of

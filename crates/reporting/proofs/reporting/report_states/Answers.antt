@@ -1,9 +1,8 @@
 -- `reporting::reporting::report_states` meets its contract. Assumes nothing.
-use borrow.Author.Rules.{rules}
-use Prim.Native.Nat.{◌+◌, ◌-◌, ◌≤◌}
+use Prim.Native.Nat.{◌+◌}
 use native.Mathlib.Omega.{arith}
 use Rattle.files.specs.Word.{words}
-use Rattle.reporting.specs.Reporting.{Reports, row_at, rows_below}
+use Rattle.reporting.specs.Reporting.{row_at, rows_below}
 use Rattle.reporting.proofs.Reports.{reports_none, reports_next, reports_end, may_report_again, rows_next}
 use Rattle.reporting.proofs.reporting.report_states.Goals as goal
 

@@ -1,10 +1,7 @@
 -- `reporting::reporting::report_states` meets its contract. Assumes nothing.
-use borrow.Author.Rules.{rules}
 use Prim.Native.Nat.{◌+◌, ◌-◌, ◌≤◌}
-use native.Mathlib.Omega.{arith}
 use Rattle.files.specs.Word.{words}
-use Rattle.reporting.specs.Reporting.{Reports, row_at, rows_below}
-use Rattle.reporting.proofs.Reports.{reports_none, reports_next, reports_end, may_report_again, rows_next}
+use Rattle.reporting.specs.Reporting.{Reports, rows_below}
 use Rattle.reporting.proofs.reporting.report_states.Given as goal
 
 abbrev pub invariant-loop-q : goal.invariant-loop-q

@@ -1,6 +1,5 @@
 -- `row_scan::rows::in_rows` meets its contract.
 -- Assumes nothing.
-use borrow.Author.Rules.{rules}
 use Rattle.row_scan.proofs.rows.in_rows.Goals as goal
 
 pub returns : goal.returns

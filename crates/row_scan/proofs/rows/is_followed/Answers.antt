@@ -1,6 +1,5 @@
 -- `row_scan::rows::is_followed` meets its contract.
 -- Assumes nothing.
-use borrow.Author.Rules.{rules}
 use Rattle.row_scan.proofs.rows.is_followed.Goals as goal
 
 pub returns : goal.returns

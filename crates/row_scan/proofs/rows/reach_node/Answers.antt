@@ -1,6 +1,5 @@
 -- `row_scan::rows::reach_node` meets its contract.
 -- Assumes nothing.
-use borrow.Author.Rules.{rules}
 use native.Mathlib.Omega.{arith}
 use Rattle.row_scan.proofs.rows.reach_node.Goals as goal
 

@@ -1,6 +1,5 @@
 -- `row_scan::rows::turn` meets its contract.
 -- Assumes nothing.
-use borrow.Author.Rules.{rules}
 use Rattle.row_scan.proofs.RowWords.{turns_row, turns_none}
 use Rattle.row_scan.proofs.rows.turn.Goals as goal
 

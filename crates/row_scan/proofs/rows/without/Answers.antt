@@ -1,6 +1,5 @@
 -- `row_scan::rows::without` meets its contract.
 -- Assumes nothing.
-use borrow.Author.Rules.{rules}
 use Rattle.row_scan.proofs.RowWords.{without_state}
 use Rattle.row_scan.proofs.rows.without.Goals as goal
 

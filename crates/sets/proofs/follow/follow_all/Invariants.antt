@@ -1,11 +1,9 @@
 -- `follow::follow_all` meets its contract. The invariant: what is gathered, with what may follow the states that are left, is what may
 -- follow the whole set. Assumes nothing.
-use mathlib.Core.Logic.Iff
 use mathlib.Core.Logic.{◌↔◌}
 use Prim.Native.Nat.{ℕ}
-use borrow.Author.Rules.{rules}
 use Rattle.sets.specs.Follow.{MayFollow}
-use Rattle.sets.proofs.Following.{Gathered, gather, gather_none, gather_all}
+use Rattle.sets.proofs.Following.{Gathered}
 use Rattle.sets.proofs.follow.follow_all.Given as goal
 
 abbrev pub invariant-loop-s : goal.invariant-loop-s

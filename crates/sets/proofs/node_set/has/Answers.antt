@@ -1,6 +1,5 @@
 -- `sets::node_set::has` meets its contract.
 -- Assumes nothing.
-use borrow.Author.Rules.{rules}
 use Rattle.sets.specs.NodeSet.{has_node}
 use Rattle.sets.proofs.node_set.has.Goals as goal
 

@@ -1,5 +1,4 @@
 -- `states::with` meets its contract. Assumes nothing.
-use borrow.Author.Rules.{rules}
 use Rattle.sets.proofs.StateSets.{has_with}
 use Rattle.sets.proofs.states.with.Goals as goal
 

@@ -1,5 +1,4 @@
 -- `states::without_lowest` meets its contract. Assumes nothing.
-use borrow.Author.Rules.{rules}
 use native.Mathlib.Omega.{arith}
 use Rattle.sets.proofs.StateSets.{has_clear, clear_lt}
 use Rattle.sets.proofs.Members.{states_step}

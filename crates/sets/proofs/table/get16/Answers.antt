@@ -1,5 +1,4 @@
 -- `table::get16` meets its contract. Assumes nothing.
-use borrow.Author.Rules.{rules}
 use native.Mathlib.Omega.{arith}
 use Rattle.sets.specs.Table.{half}
 use Rattle.sets.proofs.table.get16.Goals as goal

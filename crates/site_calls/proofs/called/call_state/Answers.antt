@@ -1,5 +1,4 @@
 -- `site_calls::called::call_state` meets its contract. Assumes nothing.
-use borrow.Author.Rules.{rules}
 use native.Mathlib.Omega.{arith}
 use Rattle.site_calls.specs.Called.{call_at}
 use Rattle.site_calls.proofs.called.call_state.Goals as goal

@@ -1,5 +1,4 @@
 -- `site_calls::called::check_against` meets its contract. Assumes nothing.
-use borrow.Author.Rules.{rules}
 use Rattle.files.specs.Word.{words}
 use Rattle.site_calls.proofs.Calling.{against_is}
 use Rattle.site_calls.proofs.called.check_against.Goals as goal

@@ -1,10 +1,7 @@
 -- `site_calls::called::check_doors` meets its contract. Assumes nothing.
-use borrow.Author.Rules.{rules}
 use Prim.Native.Nat.{◌-◌}
-use native.Mathlib.Omega.{arith}
 use Rattle.files.specs.Word.{words}
-use Rattle.files.proofs.Words.{words_length}
-use Rattle.site_calls.proofs.Calling.{Checking, checking_none, checking_more, checking_refused, checking_all}
+use Rattle.site_calls.proofs.Calling.{Checking}
 use Rattle.site_calls.proofs.called.check_doors.Given as goal
 
 abbrev pub invariant-loop-k : goal.invariant-loop-k

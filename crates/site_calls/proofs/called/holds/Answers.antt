@@ -1,5 +1,4 @@
 -- `site_calls::called::holds` meets its contract. Assumes nothing.
-use borrow.Author.Rules.{rules}
 use Rattle.site_calls.specs.Called.{holds_at}
 use Rattle.site_calls.proofs.called.holds.Goals as goal
 

@@ -1,10 +1,8 @@
 -- `site_calls::called::seed_called` meets its contract. Assumes nothing.
 use borrow.Author.Rules.{rules}
-use Prim.Native.Nat.{◌-◌}
 use native.Mathlib.Omega.{arith}
-use Rattle.files.specs.Word.{words}
 use Rattle.files.proofs.Words.{words_length}
-use Rattle.site_calls.proofs.Calling.{Calling, calling_none, calling_more, calling_all}
+use Rattle.site_calls.proofs.Calling.{calling_none, calling_more, calling_all}
 use Rattle.site_calls.proofs.called.seed_called.Goals as goal
 
 pub loop-k-init : goal.loop-k-init

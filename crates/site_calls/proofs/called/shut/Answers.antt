@@ -1,5 +1,4 @@
 -- `site_calls::called::shut` meets its contract. Assumes nothing.
-use borrow.Author.Rules.{rules}
 use Rattle.site_calls.specs.Called.{shut_at}
 use Rattle.site_calls.proofs.called.shut.Goals as goal
 

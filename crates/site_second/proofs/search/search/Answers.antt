@@ -1,5 +1,4 @@
 -- `site_second::search::search` meets its contract. Assumes nothing.
-use borrow.Author.Rules.{rules}
 use native.Mathlib.Omega.{arith}
 use Rattle.site_second.proofs.Replying.{called_answers}
 use Rattle.site_second.proofs.search.search.Goals as goal

@@ -1,5 +1,4 @@
 -- `position::is_edge` meets its contract. Assumes nothing.
-use borrow.Author.Rules.{rules}
 use Rattle.slots.specs.Slots.{edge_at}
 use Rattle.slots.proofs.position.is_edge.Goals as goal
 

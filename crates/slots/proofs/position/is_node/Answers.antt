@@ -1,5 +1,4 @@
 -- `position::is_node` meets its contract. Assumes nothing.
-use borrow.Author.Rules.{rules}
 use Rattle.slots.specs.Slots.{node_at}
 use Rattle.slots.proofs.position.is_node.Goals as goal
 

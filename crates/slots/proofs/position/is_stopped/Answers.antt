@@ -1,5 +1,4 @@
 -- `position::is_stopped` meets its contract. Assumes nothing.
-use borrow.Author.Rules.{rules}
 use Rattle.slots.specs.Slots.{stopped_at}
 use Rattle.slots.proofs.position.is_stopped.Goals as goal
 

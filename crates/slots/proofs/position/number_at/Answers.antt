@@ -1,5 +1,4 @@
 -- `position::number_at` meets its contract. Assumes nothing.
-use borrow.Author.Rules.{rules}
 use Rattle.slots.specs.Slots.{number}
 use Rattle.slots.proofs.position.number_at.Goals as goal
 

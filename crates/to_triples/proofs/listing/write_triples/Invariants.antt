@@ -1,10 +1,8 @@
 -- `to_triples::listing::write_triples` meets its contract. Assumes nothing.
-use borrow.Author.Rules.{rules}
 use Prim.Native.Nat.{◌-◌}
 use lib.ListN.{length}
 use Rattle.files.specs.Word.{words}
-use Rattle.files.proofs.Reading.{fewer}
-use Rattle.to_triples.proofs.Links.{Listing, listing_first, listing_node, listing_edge, listing_last}
+use Rattle.to_triples.proofs.Links.{Listing}
 use Rattle.to_triples.proofs.listing.write_triples.Given as goal
 
 abbrev pub invariant-loop-w : goal.invariant-loop-w

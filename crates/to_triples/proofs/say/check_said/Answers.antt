@@ -1,5 +1,4 @@
 -- `to_triples::say::check_said` meets its contract. Assumes nothing.
-use borrow.Author.Rules.{rules}
 use lib.ListN.{length}
 use Rattle.files.specs.Word.{words}
 use Rattle.to_triples.proofs.Saying.{said_checked}

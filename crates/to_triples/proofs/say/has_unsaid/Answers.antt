@@ -1,16 +1,10 @@
 -- `to_triples::say::has_unsaid` meets its contract. Assumes nothing.
 use borrow.Author.Rules.{rules}
-use Prim.Native.Nat.{◌-◌}
 use mathlib.Core.Path.{refl}
-use lib.ListN.{length}
 use native.Mathlib.Omega.{arith}
-use Rattle.sets.specs.Sets.{span}
-use Rattle.sets.specs.NodeSet.{has_node}
 use Rattle.sets.proofs.Spans.{span_length}
-use Rattle.files.specs.Word.{words}
 use Rattle.files.proofs.Words.{words_length}
-use Rattle.files.proofs.Scans.{Seeking, seeking_found, seeking_more, seeking_last}
-use Rattle.to_triples.specs.Say.{unsaid_at}
+use Rattle.files.proofs.Scans.{seeking_found, seeking_more, seeking_last}
 use Rattle.to_triples.proofs.Saying.{seen}
 use Rattle.to_triples.proofs.say.has_unsaid.Goals as goal
 

@@ -1,5 +1,4 @@
 -- `to_triples::say::is_unsaid` meets its contract. Assumes nothing.
-use borrow.Author.Rules.{rules}
 use Rattle.to_triples.proofs.Saying.{unsaid_told}
 use Rattle.to_triples.proofs.say.is_unsaid.Goals as goal
 

@@ -1,6 +1,5 @@
 -- `trips::calls::hub_call` meets its contract.
 -- Assumes nothing.
-use borrow.Author.Rules.{rules}
 use Rattle.trips.proofs.calls.hub_call.Goals as goal
 
 pub returns-in-First : goal.returns-in-First

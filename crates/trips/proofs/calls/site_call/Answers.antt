@@ -1,6 +1,5 @@
 -- `trips::calls::site_call` meets its contract.
 -- Assumes nothing.
-use borrow.Author.Rules.{rules}
 use Rattle.trips.proofs.calls.site_call.Goals as goal
 
 pub returns-in-First : goal.returns-in-First

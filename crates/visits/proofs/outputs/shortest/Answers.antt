@@ -1,5 +1,4 @@
 -- `visits::outputs::shortest` meets its contract. Assumes nothing.
-use borrow.Author.Rules.{rules}
 use Rattle.visits.proofs.Visiting.{shortest_four}
 use Rattle.visits.proofs.outputs.shortest.Goals as goal
 

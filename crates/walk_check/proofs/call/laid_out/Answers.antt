@@ -1,5 +1,4 @@
 -- `walk_check::call::laid_out` meets its contract. Assumes nothing.
-use borrow.Author.Rules.{rules}
 use Rattle.walk_check.proofs.Going.{laid}
 use Rattle.walk_check.proofs.call.laid_out.Goals as goal
 

@@ -1,10 +1,7 @@
 -- `walk_check::call::leads` meets its contract. Assumes nothing.
 use borrow.Author.Rules.{rules}
-use Prim.Native.Nat.{◌-◌}
-use lib.ListN.{length}
-use Rattle.files.specs.Word.{words}
 use Rattle.files.proofs.Reading.{fewer}
-use Rattle.walk_check.proofs.Going.{Going, going_first, going_more, going_last, going_out}
+use Rattle.walk_check.proofs.Going.{going_first, going_more, going_last, going_out}
 use Rattle.walk_check.proofs.call.leads.Goals as goal
 
 pub loop-at-init : goal.loop-at-init

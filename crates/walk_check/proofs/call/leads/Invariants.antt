@@ -1,10 +1,8 @@
 -- `walk_check::call::leads` meets its contract. Assumes nothing.
-use borrow.Author.Rules.{rules}
 use Prim.Native.Nat.{◌-◌}
 use lib.ListN.{length}
 use Rattle.files.specs.Word.{words}
-use Rattle.files.proofs.Reading.{fewer}
-use Rattle.walk_check.proofs.Going.{Going, going_first, going_more, going_last, going_out}
+use Rattle.walk_check.proofs.Going.{Going}
 use Rattle.walk_check.proofs.call.leads.Given as goal
 
 abbrev pub invariant-loop-at : goal.invariant-loop-at

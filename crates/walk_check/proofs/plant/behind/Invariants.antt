@@ -1,10 +1,8 @@
 -- `walk_check::plant::behind` meets its contract. Assumes nothing.
-use borrow.Author.Rules.{rules}
 use Prim.Native.Nat.{◌-◌}
 use lib.ListN.{length}
 use Rattle.files.specs.Word.{words}
-use Rattle.files.proofs.Reading.{fewer}
-use Rattle.walk_check.proofs.Standing.{Seeking, seeking_first, seeking_stopped, seeking_found, seeking_more, seeking_last}
+use Rattle.walk_check.proofs.Standing.{Seeking}
 use Rattle.walk_check.proofs.plant.behind.Given as goal
 
 abbrev pub invariant-loop-w : goal.invariant-loop-w

@@ -1,13 +1,8 @@
 -- `walk_check::plant::in_front` meets its contract. Assumes nothing.
 use borrow.Author.Rules.{rules}
 use mathlib.Core.Path.{refl}
-use Prim.Native.Nat.{◌-◌}
-use lib.ListN.{length, drop}
-use Rattle.sets.specs.Sets.{member}
-use Rattle.files.specs.Word.{words}
-use Rattle.files.specs.Part.{front}
 use Rattle.files.proofs.Reading.{fewer}
-use Rattle.walk_check.proofs.Standing.{Fronting, fronting_found, fronting_more, fronting_other, fronting_last}
+use Rattle.walk_check.proofs.Standing.{fronting_found, fronting_more, fronting_other, fronting_last}
 use Rattle.walk_check.proofs.plant.in_front.Goals as goal
 
 pub loop-v-init : goal.loop-v-init

@@ -1,5 +1,4 @@
 -- `walk_check::plant::names` meets its contract. Assumes nothing.
-use borrow.Author.Rules.{rules}
 use Rattle.walk_check.proofs.plant.names.Goals as goal
 
 pub returns : goal.returns

@@ -1,5 +1,4 @@
 -- `walk_check::plant::root_of` meets its contract. Assumes nothing.
-use borrow.Author.Rules.{rules}
 use Rattle.files.specs.Word.{words}
 use Rattle.walk_check.proofs.Standing.{root_is}
 use Rattle.walk_check.proofs.plant.root_of.Goals as goal

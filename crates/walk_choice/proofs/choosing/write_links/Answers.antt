@@ -2,7 +2,7 @@
 use borrow.Author.Rules.{rules}
 use native.Mathlib.Omega.{arith}
 use Rattle.files.specs.Word.{words}
-use Rattle.walk_choice.proofs.Picking.{Found, found_edge, Writings, writing_none, writing_last, writing_stop, states_move, writing_more}
+use Rattle.walk_choice.proofs.Picking.{Found, found_edge, writing_none, writing_last, writing_stop, states_move, writing_more}
 use Rattle.walk_choice.proofs.choosing.write_links.Goals.{Else-x-eq0}
 use Rattle.walk_choice.proofs.choosing.write_links.Goals as goal
 

@@ -1,8 +1,6 @@
 -- `walk_choice::choosing::write_links` meets its contract. Assumes nothing.
-use borrow.Author.Rules.{rules}
-use native.Mathlib.Omega.{arith}
 use Rattle.files.specs.Word.{words}
-use Rattle.walk_choice.proofs.Picking.{Found, found_edge, Writings, writing_none, writing_last, writing_stop, states_move, writing_more}
+use Rattle.walk_choice.proofs.Picking.{Writings}
 use Rattle.walk_choice.proofs.choosing.write_links.Given as goal
 
 abbrev pub invariant-loop-left : goal.invariant-loop-left

@@ -1,5 +1,4 @@
 -- `rounds::follow_back` meets its contract: no state is entered, or the row and the list of the edge's node have what is new. Assumes nothing.
-use borrow.Author.Rules.{rules}
 use native.Mathlib.Omega.{arith}
 use Rattle.walk_distances.proofs.Backward.{edge_room, back_none, back_small, back_room, back_some}
 use Rattle.walk_distances.proofs.Noting.{list_room}

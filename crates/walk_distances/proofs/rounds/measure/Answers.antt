@@ -1,5 +1,4 @@
 -- `rounds::measure` meets its contract: the first table is that of no round, and the first list has the node where it has a number. Assumes nothing.
-use borrow.Author.Rules.{rules}
 use mathlib.Core.Logic.{inl}
 use mathlib.Core.Path.{refl}
 use native.Mathlib.Omega.{arith}

@@ -1,6 +1,5 @@
 -- `rounds::note` meets its contract. Assumes nothing.
 use mathlib.Core.Path.{refl}
-use borrow.Author.Rules.{rules}
 use native.Mathlib.Omega.{arith}
 use Rattle.walk_distances.proofs.rounds.note.Goals as goal
 

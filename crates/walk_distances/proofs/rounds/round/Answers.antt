@@ -1,8 +1,6 @@
 -- `rounds::round` meets its contract. The invariant: the first k nodes of the list that is read are visited. Assumes nothing.
-use borrow.Author.Rules.{rules}
-use Prim.Native.Nat.{◌-◌}
 use Rattle.files.specs.Word.{words}
-use Rattle.walk_distances.proofs.Passing.{Rounding, rounding_first, rounding_ready, rounding_node, rounding_room, rounding_next, rounding_last}
+use Rattle.walk_distances.proofs.Passing.{rounding_first, rounding_ready, rounding_node, rounding_room, rounding_next, rounding_last}
 use Rattle.walk_distances.proofs.rounds.round.Goals as goal
 
 pub loop-k-init : goal.loop-k-init

@@ -1,9 +1,8 @@
 -- `rounds::rounds` meets its contract. The invariant: the rounds up to v are done, and the list has the nodes with the number v. Assumes nothing.
-use Prim.Native.Nat.{◌+◌, ◌-◌, ◌≤◌}
+use Prim.Native.Nat.{◌+◌, ◌≤◌}
 use native.Mathlib.Omega.{arith}
-use Rattle.files.specs.Word.{words}
 use Rattle.walk_distances.proofs.Backward.{node_room}
-use Rattle.walk_distances.proofs.Measuring.{Going, other_list, going_first, going_last, going_new, going_list, going_bound, going_next}
+use Rattle.walk_distances.proofs.Measuring.{other_list, going_first, going_last, going_new, going_list, going_bound, going_next}
 use Rattle.walk_distances.proofs.rounds.rounds.Goals.{Else-r-count}
 use Rattle.walk_distances.proofs.rounds.rounds.Goals as goal
 

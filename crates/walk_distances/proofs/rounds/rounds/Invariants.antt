@@ -1,9 +1,7 @@
 -- `rounds::rounds` meets its contract. The invariant: the rounds up to v are done, and the list has the nodes with the number v. Assumes nothing.
-use Prim.Native.Nat.{◌+◌, ◌-◌, ◌≤◌}
-use native.Mathlib.Omega.{arith}
+use Prim.Native.Nat.{◌-◌}
 use Rattle.files.specs.Word.{words}
-use Rattle.walk_distances.proofs.Backward.{node_room}
-use Rattle.walk_distances.proofs.Measuring.{Going, other_list, going_first, going_last, going_new, going_list, going_bound, going_next}
+use Rattle.walk_distances.proofs.Measuring.{Going}
 use Rattle.walk_distances.proofs.rounds.rounds.Given as goal
 
 abbrev pub invariant-loop-count : goal.invariant-loop-count

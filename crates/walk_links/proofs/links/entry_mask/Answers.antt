@@ -1,6 +1,5 @@
 -- `links::entry_mask` meets its contract. Assumes nothing.
 use mathlib.Core.Path.{sym, ◌∙◌}
-use borrow.Author.Rules.{rules}
 use Rattle.sets.proofs.StateSets.{has_empty}
 use Rattle.walk_links.proofs.links.entry_mask.Goals as goal
 

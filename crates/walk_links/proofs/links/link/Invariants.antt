@@ -1,14 +1,9 @@
 -- `links::link` meets its contract. The invariant: the edge words before x have their rows. Assumes nothing.
-use mathlib.Core.Path.{◌≡◌, refl, ◌∙◌}
+use mathlib.Core.Path.{◌≡◌}
 use Prim.Native.Nat.{◌≤◌, ◌-◌}
-use borrow.Author.Rules.{rules}
-use native.Mathlib.Omega.{arith}
 use lib.ListN.{length}
 use Rattle.files.specs.Word.{words}
-use Rattle.files.proofs.Words.{words_length}
-use Rattle.files.proofs.Parts.{whole_part}
-use Rattle.walk_links.specs.Tables.{Measurable, Linking}
-use Rattle.walk_links.proofs.Linking.{linking_none, linked_rows, linked_heads}
+use Rattle.walk_links.specs.Tables.{Linking}
 use Rattle.walk_links.proofs.links.link.Given as goal
 
 abbrev pub invariant-loop-x : goal.invariant-loop-x

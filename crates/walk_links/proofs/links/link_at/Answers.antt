@@ -1,6 +1,5 @@
 -- `links::link_at` meets its contract. Assumes nothing.
 use mathlib.Core.Path.{sym, ◌∙◌}
-use borrow.Author.Rules.{rules}
 use Rattle.walk_links.proofs.Linking.{linking_other}
 use Rattle.walk_links.proofs.links.link_at.Goals as goal
 

@@ -1,10 +1,8 @@
 -- `rows::having` meets its contract. The invariant: the states below q with the number v are gathered. Assumes nothing.
 use Prim.Native.Nat.{◌+◌, ◌*◌, ◌-◌}
-use native.Mathlib.Omega.{arith}
-use borrow.Author.Rules.{rules}
 use lib.Dec.{eqb}
 use Rattle.sets.specs.Table.{half}
-use Rattle.walk_rows.proofs.Cells.{Gathering, gather_none, gather_more, gather_all}
+use Rattle.walk_rows.proofs.Cells.{Gathering}
 use Rattle.walk_rows.proofs.rows.having.Given as goal
 
 abbrev pub invariant-loop-q : goal.invariant-loop-q

@@ -1,5 +1,4 @@
 -- `rows::hit` meets its contract. Assumes nothing.
-use borrow.Author.Rules.{rules}
 use Rattle.walk_rows.proofs.rows.hit.Goals as goal
 
 pub returns-then-hits : goal.returns-then-hits

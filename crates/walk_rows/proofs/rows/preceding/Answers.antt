@@ -1,11 +1,6 @@
 -- `rows::preceding` meets its contract. The invariant: the states below q that may be followed by one of f are gathered. Assumes nothing.
-use Prim.Native.Nat.{◌-◌}
 use native.Mathlib.Omega.{arith}
-use borrow.Author.Rules.{rules}
-use lib.ListN.{get_or}
-use Rattle.sets.specs.Sets.{any}
-use Rattle.sets.specs.States.{has_state, states_of}
-use Rattle.walk_rows.proofs.Cells.{Gathering, meets, gather_none, gather_more, gather_all}
+use Rattle.walk_rows.proofs.Cells.{meets, gather_none, gather_more, gather_all}
 use Rattle.walk_rows.proofs.rows.preceding.Goals as goal
 
 pub loop-q-init : goal.loop-q-init

@@ -1,9 +1,7 @@
 -- `rows::spread` meets its contract. The invariant: the states below q were hit. Assumes nothing.
-use Prim.Native.Nat.{◌-◌, ◌≤◌}
-use native.Mathlib.Omega.{arith}
-use borrow.Author.Rules.{rules}
+use Prim.Native.Nat.{◌-◌}
 use Rattle.sets.specs.States.{has_state}
-use Rattle.walk_rows.proofs.Cells.{Spreading, spread_none, spread_more, spread_hits, spread_tells}
+use Rattle.walk_rows.proofs.Cells.{Spreading}
 use Rattle.walk_rows.proofs.rows.spread.Given as goal
 
 abbrev pub invariant-loop-q : goal.invariant-loop-q

@@ -1,5 +1,4 @@
 -- `walk_steps::stepping::advance` meets its contract. Assumes nothing.
-use borrow.Author.Rules.{rules}
 use Rattle.walk_steps.proofs.Advancing.{advances}
 use Rattle.walk_steps.proofs.stepping.advance.Goals as goal
 

@@ -1,6 +1,5 @@
 -- `wholes::cuts::check_cuts` meets its contract.
 -- Assumes nothing.
-use borrow.Author.Rules.{rules}
 use Rattle.wholes.proofs.cuts.check_cuts.Goals as goal
 
 pub returns : goal.returns

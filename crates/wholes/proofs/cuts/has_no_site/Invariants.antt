@@ -1,11 +1,9 @@
 -- `wholes::cuts::has_no_site` meets its contract.
 -- Assumes nothing.
-use borrow.Author.Rules.{rules}
 use Prim.Native.Nat.{◌-◌}
-use mathlib.Core.Path.{refl}
 use lib.ListN.{length}
 use Rattle.files.specs.Cuts.{no_site}
-use Rattle.files.proofs.Scans.{Seeking, seeking_found, seeking_more, seeking_last}
+use Rattle.files.proofs.Scans.{Seeking}
 use Rattle.wholes.proofs.cuts.has_no_site.Given as goal
 
 abbrev pub invariant-loop-i : goal.invariant-loop-i

@@ -2,14 +2,8 @@
 -- Assumes nothing.
 use borrow.Author.Rules.{rules}
 use mathlib.Core.Path.{refl}
-use Prim.Native.Nat.{◌-◌}
-use lib.ListN.{length}
-use Rattle.files.specs.Word.{words}
 use Rattle.files.proofs.Reading.{fewer}
-use Rattle.files.proofs.Scans.{Looking, looking_found, looking_more, looking_last}
-use Rattle.sets.specs.Sets.{any}
-use Rattle.sets.specs.NodeSet.{has_node}
-use Rattle.files.specs.Part.{lost}
+use Rattle.files.proofs.Scans.{looking_found, looking_more, looking_last}
 use Rattle.wholes.proofs.whole.has_lost.Goals as goal
 
 pub loop-w-init : goal.loop-w-init

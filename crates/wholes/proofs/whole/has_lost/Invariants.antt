@@ -1,12 +1,9 @@
 -- `wholes::whole::has_lost` meets its contract.
 -- Assumes nothing.
-use borrow.Author.Rules.{rules}
-use mathlib.Core.Path.{refl}
 use Prim.Native.Nat.{◌-◌}
 use lib.ListN.{length}
 use Rattle.files.specs.Word.{words}
-use Rattle.files.proofs.Reading.{fewer}
-use Rattle.files.proofs.Scans.{Looking, looking_found, looking_more, looking_last}
+use Rattle.files.proofs.Scans.{Looking}
 use Rattle.sets.specs.Sets.{any}
 use Rattle.sets.specs.NodeSet.{has_node}
 use Rattle.files.specs.Part.{lost}

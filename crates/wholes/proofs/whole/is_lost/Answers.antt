@@ -1,6 +1,5 @@
 -- `wholes::whole::is_lost` meets its contract.
 -- Assumes nothing.
-use borrow.Author.Rules.{rules}
 use Rattle.wholes.proofs.whole.is_lost.Goals as goal
 
 pub returns : goal.returns
