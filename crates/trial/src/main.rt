@@ -18,6 +18,14 @@ const CUTS: usize = PART_WORDS;
 // The bytes that a call's work or a list may take.
 const BUFFER: usize = WORK_BYTES;
 
+fn usage(rt: &HostRuntime) -> io::Result<()> {
+    eprintln!(rt; "usage: trial WHOLE PATH CUT")
+}
+
+fn print_refusal(rt: &HostRuntime, number: u32) -> io::Result<()> {
+    println!(rt; "refused {number}")
+}
+
 fn slots() -> [u8; SLOTS] {
     [0; SLOTS]
 }
@@ -54,15 +62,15 @@ fn run(rt: &HostRuntime, first: &str, second: &str, third: &str) -> io::Result<(
     let mut whole = [0u8; WHOLE];
     let mut path = [0u8; PATH];
     let mut cuts = [0u8; CUTS];
-    let w = load(rt, first, &mut whole)?;
-    let p = load(rt, second, &mut path)?;
-    let c = load(rt, third, &mut cuts)?;
+    let w = load(rt, first, &mut whole);
+    let p = load(rt, second, &mut path);
+    let c = load(rt, third, &mut cuts);
     if !(w.read & p.read & c.read) {
         return Ok(());
     }
     let number = question(rt, &whole[..w.bytes], &path[..p.bytes], &cuts[..c.bytes]);
     if number != 0 {
-        println!(rt; "refused {number}")?;
+        print_refusal(rt, number)?;
     }
     Ok(())
 }
@@ -71,6 +79,6 @@ fn main(rt: HostRuntime) -> io::Result<()> {
     let args: Vec<String> = env::args(&rt)?.collect(rt.alloc())?;
     match args.as_slice() {
         [_, first, second, third] => run(&rt, first.as_str(), second.as_str(), third.as_str()),
-        _ => eprintln!(rt; "usage: trial WHOLE PATH CUT"),
+        _ => usage(&rt),
     }
 }
