@@ -12,7 +12,7 @@
 #include "drafts.h"
 
 /* No call may need as many bytes: docs/CALLS.md says so. */
-enum { STACK = 65536, GUARD = 4096, PAINT = 0xc3, RED_ZONE = 128, BOUND = 1536, MOST_JOBS = 100 };
+enum { STACK = 65536, GUARD = 4096, PAINT = 0xc3, RED_ZONE = 128, BOUND = 2048, MOST_JOBS = 100 };
 
 /* A call to be made on the small stack, and what came of it. */
 struct job {
