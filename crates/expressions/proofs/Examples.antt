@@ -8,17 +8,17 @@ use Prim.Native.Nat.{ℕ}
 use lib.Dec.{eqb}
 use Rattle.expressions.specs.Expr.{Expr, letter, then, or, star, Matches}
 use Rattle.expressions.specs.Positions.{next, accepts}
-use Rattle.expressions.specs.Postfix.{put_letter, make-then, make-or, make-star, read, items}
+use Rattle.expressions.specs.Postfix.{put_letter, make_then, make_or, make_star, read, items}
 use Rattle.expressions.proofs.Glushkov.{glushkov}
 use Rattle.expressions.specs.Fragments.{compute}
 
 abbrev e : Expr
 e = then (star (or (letter 1) (letter 2))) (letter 3)
 
-written : items e ≡ put_letter 1 ∷ put_letter 2 ∷ make-or ∷ make-star ∷ put_letter 3 ∷ make-then ∷ []
+written : items e ≡ put_letter 1 ∷ put_letter 2 ∷ make_or ∷ make_star ∷ put_letter 3 ∷ make_then ∷ []
 written = refl
 
-read_back : read (put_letter 1 ∷ put_letter 2 ∷ make-or ∷ make-star ∷ put_letter 3 ∷ make-then ∷ []) [] ≡ some e
+read_back : read (put_letter 1 ∷ put_letter 2 ∷ make_or ∷ make_star ∷ put_letter 3 ∷ make_then ∷ []) [] ≡ some e
 read_back = refl
 
 -- the states that may come next after 0, after 1 and after 3, and the states in which a word may end

@@ -4,5 +4,6 @@ pub mod Postfix
 pub mod Paths
 pub mod Examples
 pub mod Labels
+pub mod Fewer
 pub mod Waiting
 pub mod Loading

@@ -19,7 +19,7 @@ use Rattle.files.specs.Groups.{is_range, is_group, load, loaded, our_groups, Ran
 use Rattle.files.proofs.Groups.{load_label, loaded_head, loaded_body, ours_ranges}
 use Rattle.expressions.specs.Expr.{Expr, empty, letter, then, or, star, Matches, letters, count}
 use Rattle.expressions.specs.Positions.{nullable, first, last, follow, next, accepts, label_word, step}
-use Rattle.expressions.specs.Postfix.{Item, put_empty, put_letter, make-then, make-or, make-star, read}
+use Rattle.expressions.specs.Postfix.{Item, put_empty, put_letter, make_then, make_or, make_star, read}
 use Rattle.expressions.specs.Labels.{in_range, holds, holds_by, operator_item, item, or_empty, expr_of}
 use Rattle.expressions.proofs.Labels.{range_holds}
 use Rattle.expressions.proofs.Glushkov.{All-map}
@@ -43,9 +43,9 @@ module _ (f : ℕ → ℕ) where
   abbrev reitem : Item → Item
   reitem put_empty = put_empty
   reitem (put_letter l) = put_letter (f l)
-  reitem make-then = make-then
-  reitem make-or = make-or
-  reitem make-star = make-star
+  reitem make_then = make_then
+  reitem make_or = make_or
+  reitem make_star = make_star
 
   read_relabel : (is : List Item) (s : List Expr) → read (map reitem is) (map relabel s) ≡ Option.map relabel (read is s)
   read_relabel [] [] = refl
@@ -53,14 +53,14 @@ module _ (f : ℕ → ℕ) where
   read_relabel [] (b ∷ a ∷ s) = refl
   read_relabel (put_empty ∷ is) s = read_relabel is (empty ∷ s)
   read_relabel (put_letter l ∷ is) s = read_relabel is (letter l ∷ s)
-  read_relabel (make-then ∷ is) [] = refl
-  read_relabel (make-then ∷ is) (b ∷ []) = refl
-  read_relabel (make-then ∷ is) (b ∷ a ∷ s) = read_relabel is (then a b ∷ s)
-  read_relabel (make-or ∷ is) [] = refl
-  read_relabel (make-or ∷ is) (b ∷ []) = refl
-  read_relabel (make-or ∷ is) (b ∷ a ∷ s) = read_relabel is (or a b ∷ s)
-  read_relabel (make-star ∷ is) [] = refl
-  read_relabel (make-star ∷ is) (a ∷ s) = read_relabel is (star a ∷ s)
+  read_relabel (make_then ∷ is) [] = refl
+  read_relabel (make_then ∷ is) (b ∷ []) = refl
+  read_relabel (make_then ∷ is) (b ∷ a ∷ s) = read_relabel is (then a b ∷ s)
+  read_relabel (make_or ∷ is) [] = refl
+  read_relabel (make_or ∷ is) (b ∷ []) = refl
+  read_relabel (make_or ∷ is) (b ∷ a ∷ s) = read_relabel is (or a b ∷ s)
+  read_relabel (make_star ∷ is) [] = refl
+  read_relabel (make_star ∷ is) (a ∷ s) = read_relabel is (star a ∷ s)
 
   count_same : (e : Expr) → count (relabel e) ≡ count e
   count_same empty = refl

@@ -7,7 +7,7 @@ use Prim.Native.Nat.{ℕ, ◌+◌}
 use native.Mathlib.Omega.{arith}
 use lib.ListN.{length, length-append}
 use Rattle.expressions.specs.Expr.{Expr, empty, letter, then, or, star, letters, count}
-use Rattle.expressions.specs.Postfix.{Item, put_empty, put_letter, make-then, make-or, make-star, read, items}
+use Rattle.expressions.specs.Postfix.{Item, put_empty, put_letter, make_then, make_or, make_star, read, items}
 use Rattle.expressions.proofs.Ranges.{length_letters}
 use Rattle.expressions.specs.Fragments.{Construction, link, compute, words_of, fragments_of, table_of, construction_of}
 
@@ -23,14 +23,14 @@ computes [] (e ∷ []) = refl
 computes [] (b ∷ a ∷ s) = refl
 computes (put_empty ∷ is) s = simp by-stack at (computes is (empty ∷ s))
 computes (put_letter l ∷ is) s = simp by-stack at (computes is (letter l ∷ s))
-computes (make-then ∷ is) [] = refl
-computes (make-then ∷ is) (b ∷ []) = refl
-computes (make-then ∷ is) (b ∷ a ∷ s) = simp by-stack (simp by-stack at (computes is (then a b ∷ s)))
-computes (make-or ∷ is) [] = refl
-computes (make-or ∷ is) (b ∷ []) = refl
-computes (make-or ∷ is) (b ∷ a ∷ s) = simp by-stack (computes is (or a b ∷ s))
-computes (make-star ∷ is) [] = refl
-computes (make-star ∷ is) (a ∷ s) = simp by-stack (computes is (star a ∷ s))
+computes (make_then ∷ is) [] = refl
+computes (make_then ∷ is) (b ∷ []) = refl
+computes (make_then ∷ is) (b ∷ a ∷ s) = simp by-stack (simp by-stack at (computes is (then a b ∷ s)))
+computes (make_or ∷ is) [] = refl
+computes (make_or ∷ is) (b ∷ []) = refl
+computes (make_or ∷ is) (b ∷ a ∷ s) = simp by-stack (computes is (or a b ∷ s))
+computes (make_star ∷ is) [] = refl
+computes (make_star ∷ is) (a ∷ s) = simp by-stack (computes is (star a ∷ s))
 
 -- From the empty stack: the tables are those of the expression, and there are none where no expression is read.
 pub compute_read : (is : List Item) → compute is [] [] (λ q p. false) ≡ map construction_of (read is [])
@@ -49,14 +49,14 @@ read_more [] (a ∷ []) e h rest t = let q : a ≡ e = cc in ap (λ a. read rest
 read_more [] (b ∷ a ∷ s) e h rest t = absurd (none_some h)
 read_more (put_empty ∷ is) s e h rest t = read_more is (empty ∷ s) e h rest t
 read_more (put_letter l ∷ is) s e h rest t = read_more is (letter l ∷ s) e h rest t
-read_more (make-then ∷ is) [] e h rest t = absurd (none_some h)
-read_more (make-then ∷ is) (b ∷ []) e h rest t = absurd (none_some h)
-read_more (make-then ∷ is) (b ∷ a ∷ s) e h rest t = read_more is (then a b ∷ s) e h rest t
-read_more (make-or ∷ is) [] e h rest t = absurd (none_some h)
-read_more (make-or ∷ is) (b ∷ []) e h rest t = absurd (none_some h)
-read_more (make-or ∷ is) (b ∷ a ∷ s) e h rest t = read_more is (or a b ∷ s) e h rest t
-read_more (make-star ∷ is) [] e h rest t = absurd (none_some h)
-read_more (make-star ∷ is) (a ∷ s) e h rest t = read_more is (star a ∷ s) e h rest t
+read_more (make_then ∷ is) [] e h rest t = absurd (none_some h)
+read_more (make_then ∷ is) (b ∷ []) e h rest t = absurd (none_some h)
+read_more (make_then ∷ is) (b ∷ a ∷ s) e h rest t = read_more is (then a b ∷ s) e h rest t
+read_more (make_or ∷ is) [] e h rest t = absurd (none_some h)
+read_more (make_or ∷ is) (b ∷ []) e h rest t = absurd (none_some h)
+read_more (make_or ∷ is) (b ∷ a ∷ s) e h rest t = read_more is (or a b ∷ s) e h rest t
+read_more (make_star ∷ is) [] e h rest t = absurd (none_some h)
+read_more (make_star ∷ is) (a ∷ s) e h rest t = read_more is (star a ∷ s) e h rest t
 
 -- two operands, the one behind the other
 pub read_two : (is js : List Item) (a b : Expr) → read is [] ≡ some a → read js [] ≡ some b → (rest : List Item)
@@ -67,6 +67,6 @@ read_two is js a b h k rest = read_more is [] a h (js ++ rest) [] ∙ read_more 
 pub read_items : (e : Expr) → read (items e) [] ≡ some e
 read_items empty = refl
 read_items (letter l) = refl
-read_items (then a b) = rw (append_assoc (items a) (items b) (make-then ∷ [])) (read_two (items a) (items b) a b (read_items a) (read_items b) (make-then ∷ []))
-read_items (or a b) = rw (append_assoc (items a) (items b) (make-or ∷ [])) (read_two (items a) (items b) a b (read_items a) (read_items b) (make-or ∷ []))
-read_items (star a) = read_more (items a) [] a (read_items a) (make-star ∷ []) []
+read_items (then a b) = rw (append_assoc (items a) (items b) (make_then ∷ [])) (read_two (items a) (items b) a b (read_items a) (read_items b) (make_then ∷ []))
+read_items (or a b) = rw (append_assoc (items a) (items b) (make_or ∷ [])) (read_two (items a) (items b) a b (read_items a) (read_items b) (make_or ∷ []))
+read_items (star a) = read_more (items a) [] a (read_items a) (make_star ∷ []) []

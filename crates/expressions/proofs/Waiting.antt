@@ -1,98 +1,52 @@
 -- How many operands may wait, a or b, where a is not above b: a path in which at most a wait is read the same with either; any other gives 9 where
 -- it was accepted, and where it was refused its number or 9. Assumes nothing.
-use mathlib.Core.Path.{◌≡◌, refl, sym, ap, ◌∙◌}
-use mathlib.Core.Logic.{◌↔◌, ◌⊎◌, inl, inr, ⊎_elim}
-use mathlib.Core.Bool.{Bool, true, false, ◌&&◌}
-use mathlib.Core.List.{List, [], ◌∷◌}
-use mathlib.Core.Option.{some, map}
-use Prim.Native.Nat.{ℕ, zero, suc, ◌≤◌}
-use native.Mathlib.Omega.{arith}
-use native.Mathlib.Decide.{dec_le}
-use lib.Dec.{T, leb, lit≤}
-use lib.ListN.{length, drop}
-use borrow.Author.Tests.{le-leb, lt-leb}
-use Rattle.sets.proofs.Tests.{and_iff, le_iff}
-use Rattle.files.specs.Refuse.{◌then◌, ◌unless◌, header_check}
+use mathlib.Core.Path.{◌≡◌, sym, ◌∙◌}
+use mathlib.Core.Logic.{◌↔◌, ⊎_elim}
+use mathlib.Core.List.{List}
+use mathlib.Core.Option.{some}
+use Prim.Native.Nat.{ℕ, ◌≤◌}
+use lib.Dec.{T, lit≤}
+use lib.ListN.{drop}
 use Rattle.files.specs.Limits.{most_waiting}
-use Rattle.files.specs.Path.{takes, waits, at_most, word_check, scan, path_check_by, path_check}
-use Rattle.files.specs.Expr.{expr_check}
-use Rattle.files.proofs.Checks.{checks}
+use Rattle.files.specs.Path.{at_most, path_check_by, path_check}
 use Rattle.expressions.specs.Labels.{expr_of}
-use Rattle.expressions.specs.Waiting.{expr_by, automaton_of, SameBy}
+use Rattle.expressions.specs.Waiting.{expr_by, SameBy}
 use Rattle.expressions.proofs.Paths.{path_reads}
-
--- the number x is y, or 9 in its place
-abbrev pub OrNine : ℕ → ℕ → Type 0
-OrNine x y = (x ≡ y) ⊎ (x ≡ 9)
-
-then_nine : (x y : ℕ) {x' y' : ℕ} → OrNine x x' → OrNine y y' → OrNine (x then y) (x' then y')
-then_nine x y (inr e) k = inr (rw e)
-then_nine zero y (inl e) k = rw (← e) k
-then_nine (suc x) y (inl e) k = inl (rw (← e))
+use Rattle.expressions.proofs.Fewer.{OrNine, nine, same, most, alike}
 
 module _ (a b : ℕ) (less : a ≤ b) where
-  fits_nine : (c : Bool) (k : ℕ) → OrNine (9 unless (c && leb k a)) (9 unless (c && leb k b))
-  fits_nine false k = inl refl
-  fits_nine true k =
-      elim (dec_le k a) [
-        | yes l ↦ inl (rw (le-leb k a l, le-leb k b (omega arith)))
-        | no l ↦ inr (rw (lt-leb k a (omega arith)))
-      ]
-
-  word_nine : (waiting w : ℕ) → OrNine (word_check a waiting w) (word_check b waiting w)
-  word_nine waiting w = then_nine (expr_check w) _ (inl refl) (fits_nine (leb (takes w) waiting) (waits waiting w))
-
-  scan_nine : (waiting : ℕ) (ws : List ℕ) → OrNine (scan a waiting ws) (scan b waiting ws)
-  scan_nine waiting [] = inl refl
-  scan_nine waiting (w ∷ ws) = then_nine (word_check a waiting w) _ (word_nine waiting w) (scan_nine (waits waiting w) ws)
-
   -- with the lower maximum every path has the same number, or 9
   pub path_nine : (path : List ℕ) → OrNine (path_check_by a path) (path_check_by b path)
-  path_nine [] = inl refl
-  path_nine (h ∷ ws) = then_nine (header_check 4 false true (suc (length ws)) h) _ (inl refl) (then_nine (scan a 0 ws) _ (scan_nine 0 ws) (inl refl))
-
-  scan_same : (waiting : ℕ) (ws : List ℕ) → T (at_most a waiting ws) → scan a waiting ws ≡ scan b waiting ws
-  scan_same waiting [] h = refl
-  scan_same waiting (w ∷ ws) h =
-      let (l, r) = simp (and_iff, le_iff) at h in
-      rw (le-leb (waits waiting w) a l, le-leb (waits waiting w) b (omega arith), scan_same (waits waiting w) ws r)
+  path_nine path = nine a b less path
 
   -- the same number where at most a wait
   pub path_same : (path : List ℕ) → T (at_most a 0 (drop 1 path)) → path_check_by a path ≡ path_check_by b path
-  path_same [] h = refl
-  path_same (k ∷ ws) h = rw (scan_same 0 ws h)
-
-  scan_most : (waiting : ℕ) (ws : List ℕ) → scan a waiting ws ≡ 0 → T (at_most a waiting ws)
-  scan_most waiting [] h = tt
-  scan_most waiting (w ∷ ws) h = let k = simp checks at h in simp (and_iff, le_iff) (k.0.1.1, scan_most (waits waiting w) ws k.1)
+  path_same path h = same a b less path h
 
   path_most : (path : List ℕ) → path_check_by a path ≡ 0 → T (at_most a 0 (drop 1 path))
-  path_most [] e = absurd (omega arith)
-  path_most (h ∷ ws) e = scan_most 0 ws (simp checks at e).1.0
+  path_most path e = most a b less path e
 
   -- accepted with the lower maximum are just the paths accepted with the higher in which at most a wait
   pub path_iff : (path : List ℕ) → (path_check_by a path ≡ 0) ↔ ((path_check_by b path ≡ 0) × T (at_most a 0 (drop 1 path)))
   path_iff path = (
-    λ e. let h = path_most path e in (sym (path_same path h) ∙ e, h),
-    λ e. path_same path e.1 ∙ e.0,
+    λ e. let h = most a b less path e in (sym (same a b less path h) ∙ e, h),
+    λ e. same a b less path e.1 ∙ e.0,
   )
 
   -- the others give 9
   pub path_more : (path : List ℕ) → path_check_by b path ≡ 0 → (T (at_most a 0 (drop 1 path)) → ⊥) → path_check_by a path ≡ 9
-  path_more path e n = ⊎_elim (λ s. absurd (n (path_most path (s ∙ e)))) (λ s. s) (path_nine path)
+  path_more path e n = ⊎_elim (λ s. absurd (n (most a b less path (s ∙ e)))) (λ s. s) (nine a b less path)
 
   pub same_by : (path : List ℕ) → T (at_most a 0 (drop 1 path)) → SameBy a b path
-  same_by path h =
-      let same : expr_by a path ≡ expr_by b path = rw (path_same path h) in
-      record { check = path_same path h; expression = same; automaton = ap (map automaton_of) same }
+  same_by path h = alike a b less path h
 
 -- Document 02: "Every path with eight or fewer is read as before", where sixteen might wait.
 pub as_before : (path : List ℕ) → T (at_most most_waiting 0 (drop 1 path)) → SameBy most_waiting 16 path
-as_before = same_by most_waiting 16 (lit≤ tt)
+as_before = alike most_waiting 16 (lit≤ tt)
 
 -- of an accepted path the expression that contracts cite is the one that is read, now and where sixteen might wait
 pub read_now : (path : List ℕ) → path_check path ≡ 0 → expr_by most_waiting path ≡ some (expr_of (drop 1 path))
 read_now path ok = rw ok (path_reads path ok)
 
 pub read_before : (path : List ℕ) → path_check path ≡ 0 → expr_by 16 path ≡ some (expr_of (drop 1 path))
-read_before path ok = sym (as_before path (path_most most_waiting 16 (lit≤ tt) path ok)).expression ∙ read_now path ok
+read_before path ok = sym (as_before path (most most_waiting 16 (lit≤ tt) path ok)).expression ∙ read_now path ok

@@ -4,7 +4,7 @@ use Rattle.std.specs.Prelude.{Bool, true, false, ◌&&◌, ◌||◌, List, [], �
 use Rattle.std.proofs.Math.Option.{Option, none, some}
 use Rattle.expressions.specs.Expr.{Expr, letters}
 use Rattle.expressions.specs.Positions.{nullable, first, last, follow}
-use Rattle.expressions.specs.Postfix.{Item, put_empty, put_letter, make-then, make-or, make-star}
+use Rattle.expressions.specs.Postfix.{Item, put_empty, put_letter, make_then, make_or, make_star}
 
 -- of an expression: whether the empty word is a word of it, and the positions that may begin and that may end a word
 pub record Fragment : Type 0 where
@@ -52,14 +52,14 @@ compute [] ws (a ∷ []) f = some (record { words = ws; whole = a; follows = f }
 compute [] ws (b ∷ a ∷ s) f = none
 compute (put_empty ∷ is) ws s f = compute is ws (empty_fragment ∷ s) f
 compute (put_letter l ∷ is) ws s f = compute is (ws ++ l ∷ []) (letter_fragment (length ws + 1) ∷ s) f
-compute (make-then ∷ is) ws [] f = none
-compute (make-then ∷ is) ws (b ∷ []) f = none
-compute (make-then ∷ is) ws (b ∷ a ∷ s) f = compute is ws (then_fragment a b ∷ s) (link f a b)
-compute (make-or ∷ is) ws [] f = none
-compute (make-or ∷ is) ws (b ∷ []) f = none
-compute (make-or ∷ is) ws (b ∷ a ∷ s) f = compute is ws (or_fragment a b ∷ s) f
-compute (make-star ∷ is) ws [] f = none
-compute (make-star ∷ is) ws (a ∷ s) f = compute is ws (star_fragment a ∷ s) (link f a a)
+compute (make_then ∷ is) ws [] f = none
+compute (make_then ∷ is) ws (b ∷ []) f = none
+compute (make_then ∷ is) ws (b ∷ a ∷ s) f = compute is ws (then_fragment a b ∷ s) (link f a b)
+compute (make_or ∷ is) ws [] f = none
+compute (make_or ∷ is) ws (b ∷ []) f = none
+compute (make_or ∷ is) ws (b ∷ a ∷ s) f = compute is ws (or_fragment a b ∷ s) f
+compute (make_star ∷ is) ws [] f = none
+compute (make_star ∷ is) ws (a ∷ s) f = compute is ws (star_fragment a ∷ s) (link f a a)
 
 -- what `compute` holds where `read` holds the stack s: the label words of s, its fragments and its table
 abbrev pub words_of : List Expr → List ℕ

@@ -5,7 +5,7 @@ use Rattle.std.proofs.Math.Option.{Option, none, some}
 use Rattle.files.specs.Path.{is_label, sort_of, high_of, low_of, group_of, operator_of}
 use Rattle.files.specs.Groups.{is_group, our_groups}
 use Rattle.expressions.specs.Expr.{Expr, empty}
-use Rattle.expressions.specs.Postfix.{Item, put_empty, put_letter, make-then, make-or, make-star, read}
+use Rattle.expressions.specs.Postfix.{Item, put_empty, put_letter, make_then, make_or, make_star, read}
 
 abbrev pub between : ℕ → ℕ → ℕ → Bool
 between low high a = leb low a && leb a high
@@ -26,9 +26,9 @@ holds l a = holds_by our_groups l a
 
 abbrev pub operator_item : ℕ → Item
 operator_item zero = put_empty
-operator_item (suc zero) = make-then
-operator_item (suc (suc zero)) = make-or
-operator_item (suc (suc (suc k))) = make-star
+operator_item (suc zero) = make_then
+operator_item (suc (suc zero)) = make_or
+operator_item (suc (suc (suc k))) = make_star
 
 abbrev pub item : ℕ → Item
 item w = cond (is_label w) (put_letter w) (operator_item (operator_of w))

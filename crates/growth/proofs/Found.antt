@@ -10,7 +10,7 @@ use Rattle.sets.proofs.Filter.{map_append}
 use Rattle.files.specs.Path.{path_check}
 use Rattle.files.proofs.Ordered.{answers_read}
 use Rattle.expressions.specs.Expr.{Expr, or}
-use Rattle.expressions.specs.Postfix.{make-or, read}
+use Rattle.expressions.specs.Postfix.{make_or, read}
 use Rattle.expressions.specs.Labels.{item, or_empty, expr_of}
 use Rattle.expressions.proofs.Postfix.{read_two}
 use Rattle.expressions.proofs.Paths.{path_reads}
@@ -47,7 +47,7 @@ or_expr path other path' a b o =
     let js = map item (drop 1 other) in
     ap expr_of o ∙ ap or_empty (
     ap (λ is. read is []) (map_append item (drop 1 path) (drop 1 other ++ (or_word ∷ [])) ∙ ap (is ++◌) (map_append item (drop 1 other) (or_word ∷ [])))
-    ∙ read_two is js (expr_of (drop 1 path)) (expr_of (drop 1 other)) (path_reads path a) (path_reads other b) (make-or ∷ []))
+    ∙ read_two is js (expr_of (drop 1 path)) (expr_of (drop 1 other)) (path_reads path a) (path_reads other b) (make_or ∷ []))
 
 -- The nodes of demand 2's list
 

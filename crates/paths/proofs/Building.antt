@@ -22,7 +22,7 @@ use Rattle.labels.specs.declared.interval.LabelSet.{LabelSet}
 use Rattle.paths.specs.declared.letters.Letters.{Letters}
 use Rattle.paths.specs.declared.operand.Operand.{Operand}
 use Rattle.paths.specs.declared.builder.Builder.{Builder}
-use Rattle.expressions.specs.Postfix.{Item, put_empty, put_letter, make-then, make-or, make-star}
+use Rattle.expressions.specs.Postfix.{Item, put_empty, put_letter, make_then, make_or, make_star}
 use Rattle.expressions.specs.Labels.{operator_item, item}
 use Rattle.expressions.specs.Fragments.{empty_fragment, letter_fragment, then_fragment, or_fragment, star_fragment, link, compute}
 use Rattle.labels.specs.Interval.{label_set, HeldBy}
@@ -95,21 +95,21 @@ pub nothing_does : {b r : Builder} {o : Operand} → Replaced b b.waiting o r �
 nothing_does {b} {r} p e = done put_empty r.rows refl (omega arith) p (λ is ws. rw (p.rows, e))
 
 pub or_does : {b r : Builder} {o x y : Operand} → Replaced b (b.waiting - 2) o r → fragment_in o ≡ or_fragment (fragment_in x) (fragment_in y)
-    → x ≡ get_or b.operands (b.waiting - 2) nothing → y ≡ get_or b.operands (b.waiting - 1) nothing → Applicable make-or b → Does make-or b r
+    → x ≡ get_or b.operands (b.waiting - 2) nothing → y ≡ get_or b.operands (b.waiting - 1) nothing → Applicable make_or b → Does make_or b r
 or_does {b} {r} p e f g h =
-    done make-or r.rows refl refl p (λ is ws. rw (p.rows, e, f, g, top_two b.operands b.waiting h.enough))
+    done make_or r.rows refl refl p (λ is ws. rw (p.rows, e, f, g, top_two b.operands b.waiting h.enough))
 
 pub then_does : {b r : Builder} {o x y : Operand} (t : List ℕ) → Replaced b (b.waiting - 2) o r → fragment_in o ≡ then_fragment (fragment_in x) (fragment_in y)
     → table_in t ≡ link (table_in b.rows) (fragment_in x) (fragment_in y)
-    → x ≡ get_or b.operands (b.waiting - 2) nothing → y ≡ get_or b.operands (b.waiting - 1) nothing → Applicable make-then b
-    → Does make-then b (record { operands = r.operands; waiting = r.waiting; rows = t; letters = r.letters })
+    → x ≡ get_or b.operands (b.waiting - 2) nothing → y ≡ get_or b.operands (b.waiting - 1) nothing → Applicable make_then b
+    → Does make_then b (record { operands = r.operands; waiting = r.waiting; rows = t; letters = r.letters })
 then_does {b} t p e k f g h =
-    done make-then t refl refl p (λ is ws. rw (k, e, f, g, top_two b.operands b.waiting h.enough))
+    done make_then t refl refl p (λ is ws. rw (k, e, f, g, top_two b.operands b.waiting h.enough))
 
 pub star_does : {b r : Builder} {o x : Operand} (t : List ℕ) → Replaced b (b.waiting - 1) o r → fragment_in o ≡ star_fragment (fragment_in x)
-    → table_in t ≡ link (table_in b.rows) (fragment_in x) (fragment_in x) → x ≡ get_or b.operands (b.waiting - 1) nothing → Applicable make-star b
-    → Does make-star b (record { operands = r.operands; waiting = r.waiting; rows = t; letters = r.letters })
-star_does {b} t p e k f h = done make-star t refl refl p (λ is ws. rw (k, e, f, top b.operands b.waiting h.enough))
+    → table_in t ≡ link (table_in b.rows) (fragment_in x) (fragment_in x) → x ≡ get_or b.operands (b.waiting - 1) nothing → Applicable make_star b
+    → Does make_star b (record { operands = r.operands; waiting = r.waiting; rows = t; letters = r.letters })
+star_does {b} t p e k f h = done make_star t refl refl p (λ is ws. rw (k, e, f, top b.operands b.waiting h.enough))
 
 pub label_does : {b r : Builder} {ls : Letters} {s : LabelSet} {o : Operand} → AddedLabel b.letters s ls
     → Replaced b b.waiting o r → fragment_in o ≡ letter_fragment ls.n → b.letters.n + 1 ≤ 15
@@ -133,13 +133,13 @@ does_as {b = b} {r = r} e h = subst (λ i. Does i b r) e h
 pub operator_empty : {k : ℕ} → k ≡ 0 → put_empty ≡ operator_item k
 operator_empty e = rw e
 
-pub operator_then : {k : ℕ} → k ≡ 1 → make-then ≡ operator_item k
+pub operator_then : {k : ℕ} → k ≡ 1 → make_then ≡ operator_item k
 operator_then e = rw e
 
-pub operator_or : {k : ℕ} → k ≡ 2 → make-or ≡ operator_item k
+pub operator_or : {k : ℕ} → k ≡ 2 → make_or ≡ operator_item k
 operator_or e = rw e
 
-pub operator_star : (k : ℕ) → (k ≡ 0 → ⊥) → (k ≡ 1 → ⊥) → (k ≡ 2 → ⊥) → make-star ≡ operator_item k
+pub operator_star : (k : ℕ) → (k ≡ 0 → ⊥) → (k ≡ 1 → ⊥) → (k ≡ 2 → ⊥) → make_star ≡ operator_item k
 operator_star zero a b c = absurd (a refl)
 operator_star (suc zero) a b c = absurd (b refl)
 operator_star (suc (suc zero)) a b c = absurd (c refl)

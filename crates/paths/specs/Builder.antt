@@ -1,7 +1,7 @@
 -- Inner. What the construction of the automaton holds, and what a word does to it: the step that `compute` takes.
 use Rattle.std.specs.Prelude.{◌≡◌, Bool, false, List, [], ◌∷◌, ◌++◌, ℕ, zero, suc, ◌+◌, ◌-◌, ◌≤◌, length, get_or}
 use Rattle.files.specs.Limits.{most_waiting}
-use Rattle.expressions.specs.Postfix.{Item, put_empty, put_letter, make-then, make-or, make-star}
+use Rattle.expressions.specs.Postfix.{Item, put_empty, put_letter, make_then, make_or, make_star}
 use Rattle.expressions.specs.Fragments.{Fragment, compute}
 use Rattle.paths.specs.Operand.{fragment_in, table_in}
 use Rattle.paths.specs.Letters.{Labelled}
@@ -38,16 +38,16 @@ pub record Replaced (b : Builder) (k : ℕ) (o : Operand) (r : Builder) : Type 0
 abbrev pub operands_of : Item → ℕ
 operands_of put_empty = 0
 operands_of (put_letter l) = 0
-operands_of make-then = 2
-operands_of make-or = 2
-operands_of make-star = 1
+operands_of make_then = 2
+operands_of make_or = 2
+operands_of make_star = 1
 
 abbrev pub letters_of : Item → List ℕ
 letters_of put_empty = []
 letters_of (put_letter l) = l ∷ []
-letters_of make-then = []
-letters_of make-or = []
-letters_of make-star = []
+letters_of make_then = []
+letters_of make_or = []
+letters_of make_star = []
 
 -- there are operands for the item, and room for what it makes
 pub record Applicable (it : Item) (b : Builder) : Type 0 where

@@ -4,7 +4,7 @@ ghost use Rattle.std.specs.Prelude.{◌≡◌, ℕ, ◌<◌, length};
 ghost use Rattle.files.specs.Limits.{most_waiting};
 ghost use Rattle.files.specs.Groups.{load, Ranges};
 ghost use Rattle.files.specs.Expr.{expr_check};
-ghost use Rattle.expressions.specs.Postfix.{put_empty, put_letter, make-then, make-or, make-star};
+ghost use Rattle.expressions.specs.Postfix.{put_empty, put_letter, make_then, make_or, make_star};
 ghost use Rattle.expressions.specs.Labels.{operator_item, item};
 ghost use Rattle.labels.specs.Interval.{HeldBy};
 ghost use Rattle.paths.specs.Builder.{Starts, Replaced, Applicable, Does};
@@ -72,8 +72,8 @@ fn put_label(b: Builder, s: LabelSet) -> Builder
 }
 
 fn make_then(b: Builder) -> Builder
-    requires { Applicable make-then b }
-    ensures { Does make-then b result }
+    requires { Applicable make_then b }
+    ensures { Does make_then b result }
 {
     let j = b.waiting - 1;
     let i = b.waiting - 2;
@@ -87,8 +87,8 @@ fn make_then(b: Builder) -> Builder
 }
 
 fn make_or(b: Builder) -> Builder
-    requires { Applicable make-or b }
-    ensures { Does make-or b result }
+    requires { Applicable make_or b }
+    ensures { Does make_or b result }
 {
     let j = b.waiting - 1;
     let i = b.waiting - 2;
@@ -99,8 +99,8 @@ fn make_or(b: Builder) -> Builder
 
 // What begins the operand may also follow what ends it.
 fn make_star(b: Builder) -> Builder
-    requires { Applicable make-star b }
-    ensures { Does make-star b result }
+    requires { Applicable make_star b }
+    ensures { Does make_star b result }
 {
     let i = b.waiting - 1;
     let x = b.operands[i];

@@ -35,7 +35,8 @@ fn report_row(
     let top = seed(part, work, outside, i, q, 0);
     run(part, follow, work, outside, top);
     let pairs = row_length(work, outside);
-    if pairs == 0 {
+    let empty = pairs == 0;
+    if empty {
         return start;
     }
     write_row(part, work, outside, q, out, REPLY_WORDS, start);

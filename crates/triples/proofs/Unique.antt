@@ -78,10 +78,10 @@ raised w s r d e = omega (arith, e)
 node_made : (w : ℕ) → kind_of w ≡ 2 → bits 27 19 w ≡ 0 → w < 2 ^ 32 → w ≡ node_word (node_of w) (door_of w) (root_of w) (stopped_of w)
 node_made w k z h =
     let kind : w / 268435456 % 16 ≡ w / 268435456 = mod-eq_of_lt (omega arith) in
-    let from-19 : w / 524288 ≡ 1024 = omega (arith, kind, div-div-eq-div-mul w 524288 512) in
-    let from-18 : w / 262144 ≡ 2 * 1024 + bits 18 18 w = omega (arith, div-div-eq-div-mul w 262144 2) in
-    let from-17 : w / 131072 ≡ 2 * (w / 262144) + bits 17 17 w = omega (arith, div-div-eq-div-mul w 131072 2) in
-    let from-16 : w / 65536 ≡ 2 * (w / 131072) + bits 16 16 w = omega (arith, div-div-eq-div-mul w 65536 2) in
+    let from_19 : w / 524288 ≡ 1024 = omega (arith, kind, div-div-eq-div-mul w 524288 512) in
+    let from_18 : w / 262144 ≡ 2 * 1024 + bits 18 18 w = omega (arith, div-div-eq-div-mul w 262144 2) in
+    let from_17 : w / 131072 ≡ 2 * (w / 262144) + bits 17 17 w = omega (arith, div-div-eq-div-mul w 131072 2) in
+    let from_16 : w / 65536 ≡ 2 * (w / 131072) + bits 16 16 w = omega (arith, div-div-eq-div-mul w 65536 2) in
     rw (flag_is 18 (bits 18 18 w) (omega arith), flag_is 17 (bits 17 17 w) (omega arith), flag_is 16 (bits 16 16 w) (omega arith))
     (raised w (bits 18 18 w) (bits 17 17 w) (bits 16 16 w) (omega arith))
 

@@ -12,12 +12,12 @@ run-requires c =
 pub row_length-pairs-requires : goal.row_length-pairs-requires
 row_length-pairs-requires c = row_room c.run.ensures.begun.laid
 
-pub returns-then-pairs-eq0 : goal.returns-then-pairs-eq0
-returns-then-pairs-eq0 c =
+pub returns-then-empty : goal.returns-then-empty
+returns-then-empty c =
     let a = c.args in
     let p = c.requires in
     row_empty (words a.part.now) a.outside a.i a.q p.0.ready p.1 p.2 c.seed-top.ensures c.run.ensures
-    c.row_length-pairs.ensures (omega (arith, c.if-pairs-eq0.true))
+    c.row_length-pairs.ensures (omega (arith, c.if-empty.true))
 
 pub write_row-requires : goal.write_row-requires
 write_row-requires c =
@@ -35,4 +35,4 @@ returns c =
     let a = c.args in
     let p = c.requires in
     row_added (words a.part.now) a.outside a.i a.q p.0.ready p.1 p.2 c.seed-top.ensures c.run.ensures
-    c.row_length-pairs.ensures (λ e. omega (arith, c.if-pairs-eq0.false, e)) c.write_row.ensures c.advance.ensures c.reset.ensures (search (c.out-1.given, rules))
+    c.row_length-pairs.ensures (λ e. omega (arith, c.if-empty.false, e)) c.write_row.ensures c.advance.ensures c.reset.ensures (search (c.out-1.given, rules))
