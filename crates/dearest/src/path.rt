@@ -17,7 +17,8 @@ fn write_range(k: u32, out: &mut [u8], start: usize) -> usize
     ensures { Writes path_words (length out.old) out.old start out.new result (range_of k) }
 {
     let count = push(out, PATH_WORDS, start, range_word(0, 4095));
-    if 1 < k {
+    let joined = 1 < k;
+    if joined {
         return push(out, PATH_WORDS, count, operator_word(2));
     }
     count

@@ -5,11 +5,11 @@ use Rattle.dearest.proofs.Writing.{range_alone, range_joined}
 use Rattle.dearest.proofs.path.write_range.Goals as goal
 
 -- what the test says is taken as a number
-pub returns-then-k-gt1 : goal.returns-then-k-gt1
-returns-then-k-gt1 c =
-    range_joined c.args.k (omega (arith, c.if-k-gt1.true)) c.range_word.ensures c.operator_word.ensures
+pub returns-then-joined : goal.returns-then-joined
+returns-then-joined c =
+    range_joined c.args.k (omega (arith, c.if-joined.true)) c.range_word.ensures c.operator_word.ensures
     c.push-count.ensures (search rules) c.push.ensures
 
 pub returns : goal.returns
 returns c =
-    range_alone c.args.k (omega (arith, c.if-k-gt1.false)) c.range_word.ensures c.push-count.ensures
+    range_alone c.args.k (omega (arith, c.if-joined.false)) c.range_word.ensures c.push-count.ensures
