@@ -33,7 +33,8 @@ pub fn enter(part: &[u8], work: &mut [u8], outside: usize, s: usize, m: u16, top
 {
     let old = get16(work, REACHED, s);
     let new = m & !old;
-    if new == 0 {
+    let known = new == 0;
+    if known {
         return top;
     }
     put16(work, REACHED, s, old | new);

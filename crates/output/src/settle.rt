@@ -9,7 +9,8 @@ use files::buffer::clear;
 pub fn withhold(number: u32, out: &mut [u8])
     ensures { out.new ≡ withheld number out.old }
 {
-    if number != 0 {
+    let refused = number != 0;
+    if refused {
         clear(out);
     }
 }

@@ -112,7 +112,8 @@ fn report_at(
     ensures { Reports (words part.now) outside follow work.old out.old start work.new out.new result
         (words_at (words part.now) n i) × RunsPast (words part.now) outside follow work.old n i start result }
 {
-    if REPLY_WORDS < start {
+    let over = REPLY_WORDS < start;
+    if over {
         return start;
     }
     if is_door(word_at(part, i)) {

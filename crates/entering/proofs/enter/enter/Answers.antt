@@ -1,14 +1,13 @@
 -- `enter::enter` meets its contract. Nothing is new; the slot is a node's, which waits; or it is an outside target's. The laws are in
 -- `Entering`. Assumes nothing.
 use mathlib.Core.Path.{sym, ◌∙◌}
-use native.Mathlib.Nat.{pos_of_ne-zero}
 use native.Mathlib.Omega.{arith}
 use Rattle.entering.proofs.Entering.{enter_none, gained_roomy, gained_waiting, enter_outer, enter_node}
 use Rattle.entering.proofs.enter.enter.Goals as goal
 
-pub returns-then-new-eq0 : goal.returns-then-new-eq0
-returns-then-new-eq0 c =
-    record { entered = enter_none _ _ _ c.args.s c.args.m c.args.top c.requires.0 c.requires.1 c.requires.2 _ c.get16-old.ensures (omega arith) (omega arith) c.if-new-eq0.true; waiting = c.requires.2 }
+pub returns-then-known : goal.returns-then-known
+returns-then-known c =
+    record { entered = enter_none _ _ _ c.args.s c.args.m c.args.top c.requires.0 c.requires.1 c.requires.2 _ c.get16-old.ensures (omega arith) (omega arith) (omega (arith, c.if-known.true)); waiting = c.requires.2 }
 
 pub wait-requires : goal.wait-requires
 wait-requires c =
@@ -17,7 +16,7 @@ wait-requires c =
         gained_roomy _ _ _ c.args.s c.args.m c.args.top c.requires.0 c.requires.1 c.requires.2 _ c.get16-old.ensures (omega arith) (omega arith),
         c.requires.1,
         sym c.is_node.ensures ∙ c.if-is_node.true,
-        pos_of_ne-zero c.if-new-eq0.false,
+        omega (arith, c.if-known.false),
       );
       waiting = gained_waiting _ _ _ c.args.s c.args.m c.args.top c.requires.0 c.requires.1 c.requires.2 _ c.get16-old.ensures (omega arith) (omega arith);
     }

@@ -3,8 +3,8 @@ use borrow.Author.Rules.{rules}
 use Rattle.output.proofs.Settling.{withheld_refused, withheld_passed}
 use Rattle.output.proofs.settle.withhold.Goals as goal
 
-pub returns-then-number-ne0 : goal.returns-then-number-ne0
-returns-then-number-ne0 c = search (withheld_refused, rules)
+pub returns-then-refused : goal.returns-then-refused
+returns-then-refused c = search (withheld_refused, rules)
 
-pub returns-else-number-ne0 : goal.returns-else-number-ne0
-returns-else-number-ne0 c = search (withheld_passed, rules)
+pub returns-else-refused : goal.returns-else-refused
+returns-else-refused c = search (withheld_passed, rules)

@@ -8,10 +8,10 @@ use Rattle.reporting.proofs.Reports.{over_added, here_some, here_none, door_read
 use Rattle.reporting.proofs.Length.{runs_door, runs_other, runs_over}
 use Rattle.reporting.proofs.reporting.report_at.Goals as goal
 
-pub returns-then-start-gt-REPLY_WORDS : goal.returns-then-start-gt-REPLY_WORDS
-returns-then-start-gt-REPLY_WORDS c =
+pub returns-then-over : goal.returns-then-over
+returns-then-over c =
     let a = c.args in
-    let over : reply_words < a.start = omega (arith, c.if-start-gt-REPLY_WORDS.true) in
+    let over : reply_words < a.start = omega (arith, c.if-over.true) in
     (over_added (words_at (words a.part.now) a.n a.i) c.requires.0.ready over, runs_over a.work.now a.n a.i a.start over)
 
 pub report_door-requires : goal.report_door-requires
