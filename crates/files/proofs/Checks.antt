@@ -11,6 +11,9 @@ use lib.ListN.{length}
 use borrow.Author.Tests.{ltb-true, le-leb, lt-leb}
 use Rattle.sets.proofs.Tests.{either, passed, and_iff, le_iff, eq_iff, same_test}
 use Rattle.files.specs.Refuse.{◌then◌, ◌unless◌, room_check}
+use Rattle.files.specs.declared.refusal.Refusal.{Refusal}
+use Rattle.files.specs.declared.refusal.Refusal.TheVariants.{NoRoom, WrongSize, WrongHeader, WrongLength, WrongWord, NotAscending, WrongRoot, LostTarget, WrongOperands, StateTooHigh, WrongCounts, MixedReplies, NodeTwice, Stray, TooLong, WrongGroups, WrongFiles, WrongTriples, Unsaid, NoWalk, WrongDemands}
+use Rattle.files.specs.Refusal.{code}
 use Rattle.files.specs.Outcome.{Outcome, refused, accepted, outcome, leaves}
 use Rattle.files.specs.Limits.{work_bytes}
 
@@ -102,3 +105,27 @@ outcome_accepted k limit result f e =
 pub then_same : (c : ℕ) {x y : ℕ} → (c ≡ 0 → x ≡ y) → (c then x) ≡ (c then y)
 then_same zero h = h refl
 then_same (suc c) h = refl
+
+-- no refusal has number 0
+pub code_some : (e : Refusal) → code e ≡ 0 → ⊥
+code_some NoRoom h = omega arith
+code_some WrongSize h = omega arith
+code_some WrongHeader h = omega arith
+code_some WrongLength h = omega arith
+code_some WrongWord h = omega arith
+code_some NotAscending h = omega arith
+code_some WrongRoot h = omega arith
+code_some LostTarget h = omega arith
+code_some WrongOperands h = omega arith
+code_some StateTooHigh h = omega arith
+code_some WrongCounts h = omega arith
+code_some MixedReplies h = omega arith
+code_some NodeTwice h = omega arith
+code_some Stray h = omega arith
+code_some TooLong h = omega arith
+code_some WrongGroups h = omega arith
+code_some WrongFiles h = omega arith
+code_some WrongTriples h = omega arith
+code_some Unsaid h = omega arith
+code_some NoWalk h = omega arith
+code_some WrongDemands h = omega arith

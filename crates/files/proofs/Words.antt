@@ -2,10 +2,11 @@
 -- its four bytes, and a word put there as four stores. Assumes nothing.
 use mathlib.Core.Path.{◌≡◌, refl, ap, ap₂}
 use mathlib.Core.List.{List, [], ◌∷◌}
-use Prim.Native.Nat.{ℕ, zero, suc, ◌+◌, ◌*◌, ◌/◌, ◌%◌, ◌^◌, ◌≤◌, ◌<◌}
+use Prim.Native.Nat.{ℕ, zero, suc, ◌+◌, ◌-◌, ◌*◌, ◌/◌, ◌%◌, ◌^◌, ◌≤◌, ◌<◌}
 use native.Mathlib.Nat.{suc-add, mod-eq_of_lt, div-div-eq-div-mul}
 use native.Mathlib.Omega.{arith}
-use lib.ListN.{length, get_or, set, take, drop, get_or-eq_default}
+use lib.ListN.{length, get_or, set, take, drop, get_or-eq_default, length-drop}
+use lib.Seq.{take_all}
 use Rattle.sets.specs.Sets.{Mem, here, there}
 use Rattle.files.specs.Word.{word, words, bytes_of, put_word}
 use Rattle.files.specs.Refuse.{size_check}
@@ -82,6 +83,10 @@ words_drop (suc n) (a ∷ []) = rw quad
 words_drop (suc n) (a ∷ b ∷ []) = rw quad
 words_drop (suc n) (a ∷ b ∷ c ∷ []) = rw quad
 words_drop (suc n) (a ∷ b ∷ c ∷ d ∷ s) = rw quad (words_drop n s)
+
+-- those of the rest of a slice, from word n on
+pub words_rest : (n : ℕ) (s : List ℕ) → words (take (length s - 4 * n) (drop (4 * n) s)) ≡ drop n (words s)
+words_rest n s = rw (take_all (length s - 4 * n) (drop (4 * n) s) (omega (arith, length-drop (4 * n) s))) (words_drop n s)
 
 -- the words of the bytes of n words at the front
 pub words_take : (n : ℕ) (s : List ℕ) → words (take (4 * n) s) ≡ take n (words s)

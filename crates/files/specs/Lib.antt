@@ -2,6 +2,7 @@ pub mod Word
 pub mod Field
 pub mod Limits
 pub mod Refuse
+pub mod Refusal
 pub mod Scan
 pub mod Outcome
 pub mod Read

@@ -6,9 +6,5 @@ ghost use Rattle.files.specs.Outcome.{zeros};
 pub fn clear(buf: &mut [u8])
     ensures { buf.new ≡ zeros (length buf.old) }
 {
-    let mut i = 0;
-    while i < buf.len() {
-        buf[i] = 0;
-        i += 1;
-    }
+    buf.fill(0);
 }

@@ -2,12 +2,13 @@
 ghost use Rattle.std.specs.Prelude.{◌≡◌, ◌&&◌, eqb, leb};
 ghost use Rattle.files.specs.Field.{bits};
 ghost use Rattle.files.specs.Refuse.{◌unless◌};
-ghost use Rattle.files.specs.Path.{is_label, sort_of, has_ends, low_of, high_of, group_of, operator_of, label_check, operator_check};
+ghost use Rattle.files.specs.Path.{is_label, sort_of, has_ends, low_of, high_of, group_of, label_check, operator_check};
 ghost use Rattle.files.specs.Groups.{is_range};
-ghost use Rattle.files.specs.Expr.{expr_check, label_at, expr_at};
+ghost use Rattle.files.specs.Refusal.{number};
+ghost use Rattle.files.specs.Expr.{expr_check, label_at, operator_at, expr_at};
 
 use crate::field::kind;
-use crate::refuse::{choose, refuse};
+use crate::refusal::{Refusal, ensure};
 
 // The labels that a label word holds: those of a range, its low and its high end; those of a group; or those outside a range.
 #[derive(Clone, Copy)]
@@ -17,15 +18,22 @@ pub enum Label {
     Outside(u16, u16),
 }
 
-// 0 empty word, 1 then, 2 or, 3 star; wrong, where the word is no expression word.
+// In the order of an operator word's number.
+#[derive(Clone, Copy)]
+pub enum Operator {
+    Empty,
+    Then,
+    Or,
+    Star,
+}
+
 #[derive(Clone, Copy)]
 pub enum ExprWord {
     Label(Label),
-    Operator(u32),
-    Wrong,
+    Operator(Operator),
 }
 
-fn is_label(w: u32) -> bool
+pub fn is_label(w: u32) -> bool
     ensures { result ≡ is_label w }
 {
     kind(w) == 5
@@ -62,10 +70,15 @@ fn group(w: u32) -> u32
     w % 8
 }
 
-fn operator(w: u32) -> u32
-    ensures { result ≡ operator_of w }
+pub fn read_operator(w: u32) -> Operator
+    ensures { result ≡ operator_at w }
 {
-    w % 4
+    match w % 4 {
+        0 => Operator::Empty,
+        1 => Operator::Then,
+        2 => Operator::Or,
+        _ => Operator::Star,
+    }
 }
 
 // A range word, its low end not above the high one.
@@ -75,34 +88,48 @@ pub fn is_range(w: u32) -> bool
     is_label(w) & (sort(w) == 0) & (low(w) <= high(w))
 }
 
-fn check_range(w: u32) -> u32
-    ensures { result ≡ (5 unless leb (low_of w) (high_of w)) }
+fn check_range(w: u32) -> Result<(), Refusal>
+    ensures { number result ≡ (5 unless leb (low_of w) (high_of w)) }
 {
-    refuse(5, low(w) <= high(w))
+    ensure(low(w) <= high(w), Refusal::WrongWord)
 }
 
-fn check_group(w: u32) -> u32
-    ensures { result ≡ (5 unless (eqb (sort_of w) 1 && eqb (bits 23 3 w) 0)) }
+fn check_group(w: u32) -> Result<(), Refusal>
+    ensures { number result ≡ (5 unless (eqb (sort_of w) 1 && eqb (bits 23 3 w) 0)) }
 {
-    refuse(5, (sort(w) == 1) & (w / 8 % 0x20_0000 == 0))
+    ensure(
+        (sort(w) == 1) & (w / 8 % 0x20_0000 == 0),
+        Refusal::WrongWord,
+    )
 }
 
-fn check_label(w: u32) -> u32
-    ensures { result ≡ label_check w }
+fn check_label(w: u32) -> Result<(), Refusal>
+    ensures { number result ≡ label_check w }
 {
-    choose(has_ends(w), check_range(w), check_group(w))
+    if has_ends(w) {
+        check_range(w)
+    } else {
+        check_group(w)
+    }
 }
 
-fn check_operator(w: u32) -> u32
-    ensures { result ≡ operator_check w }
+fn check_operator(w: u32) -> Result<(), Refusal>
+    ensures { number result ≡ operator_check w }
 {
-    refuse(5, (kind(w) == 6) & (w / 4 % 0x400_0000 == 0))
+    ensure(
+        (kind(w) == 6) & (w / 4 % 0x400_0000 == 0),
+        Refusal::WrongWord,
+    )
 }
 
-fn check_expr(w: u32) -> u32
-    ensures { result ≡ expr_check w }
+pub fn check_expr(w: u32) -> Result<(), Refusal>
+    ensures { number result ≡ expr_check w }
 {
-    choose(is_label(w), check_label(w), check_operator(w))
+    if is_label(w) {
+        check_label(w)
+    } else {
+        check_operator(w)
+    }
 }
 
 fn read_label(w: u32) -> Label
@@ -118,16 +145,14 @@ fn read_label(w: u32) -> Label
     }
 }
 
-pub fn read_expr(w: u32) -> ExprWord
+// What an expression word says, or 5.
+pub fn read_expr(w: u32) -> Result<ExprWord, Refusal>
     ensures { result ≡ expr_at w }
 {
-    if check_expr(w) == 0 {
-        if is_label(w) {
-            ExprWord::Label(read_label(w))
-        } else {
-            ExprWord::Operator(operator(w))
-        }
+    check_expr(w)?;
+    if is_label(w) {
+        Ok(ExprWord::Label(read_label(w)))
     } else {
-        ExprWord::Wrong
+        Ok(ExprWord::Operator(read_operator(w)))
     }
 }

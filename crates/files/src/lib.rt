@@ -8,6 +8,8 @@ pub mod field;
 pub mod limits;
 pub mod make;
 pub mod part;
+pub mod refusal;
 pub mod refuse;
 pub mod reply;
+pub mod scan;
 pub mod word;

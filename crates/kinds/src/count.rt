@@ -4,8 +4,8 @@ ghost use Rattle.sets.specs.Sets.{filter};
 ghost use Rattle.files.specs.Word.{words};
 ghost use Rattle.kinds.specs.Kinds.{of_kind};
 
-use files::cursor::{Cursor, Step};
 use files::field::kind;
+use files::word::Words;
 
 // Which words of a kind: all, or those with a bit.
 #[derive(Clone, Copy)]
@@ -31,18 +31,10 @@ pub fn count_kind(bytes: &[u8], from: usize, k: u32, mark: Mark) -> usize
     ensures { result ≡ length (filter (of_kind k mark) (drop from (words bytes.now))) }
 {
     let mut count = 0;
-    let mut cur = Cursor { at: from };
-    loop {
-        match cur.read(bytes) {
-            Step::Word(w, next) => {
-                cur = next;
-                if is_of_kind(w, k, mark) {
-                    count += 1;
-                }
-            }
-            Step::End => {
-                return count;
-            }
+    for w in Words::from(bytes, from) {
+        if is_of_kind(w, k, mark) {
+            count += 1;
         }
     }
+    count
 }

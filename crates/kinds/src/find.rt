@@ -11,12 +11,10 @@ pub fn find_kind(bytes: &[u8], k: u32, mark: Mark) -> usize
     ensures { FirstThat (of_kind k mark) (words bytes.now) result }
 {
     let count = bytes.len() / 4;
-    let mut i = 0;
-    while i < count {
+    for i in 0..count {
         if is_of_kind(word_at(bytes, i), k, mark) {
             return i;
         }
-        i += 1;
     }
-    i
+    count
 }

@@ -5,8 +5,8 @@ ghost use Rattle.sets.specs.NodeSet.{has_node, node_set_bytes};
 ghost use Rattle.files.specs.Word.{words};
 ghost use Rattle.files.specs.Field.{kind_of, node_of};
 
-use files::cursor::{Cursor, Step};
 use files::field::{kind, node};
+use files::word::Words;
 use sets::node_set::add;
 
 // Adds a word's node to the set, if the word is of kind k.
@@ -25,16 +25,7 @@ pub fn mark_kind(bytes: &[u8], work: &mut [u8], k: u32)
     ensures { (x : ℕ) → has_node work.new 0 x
         ≡ (has_node work.old 0 x || member x (map node_of (filter (λ w. eqb (kind_of w) k) (words bytes.now)))) }
 {
-    let mut cur = Cursor { at: 0 };
-    loop {
-        match cur.read(bytes) {
-            Step::Word(w, next) => {
-                mark_word(work, k, w);
-                cur = next;
-            }
-            Step::End => {
-                return;
-            }
-        }
+    for w in Words::of(bytes) {
+        mark_word(work, k, w);
     }
 }

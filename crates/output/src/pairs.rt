@@ -7,19 +7,16 @@ ghost use Rattle.output.specs.Pairs.{pairs_with};
 
 use crate::writer::push;
 use files::make::pair_word;
-use sets::states::{lowest, without_lowest};
+use sets::states::StateSet;
 
 // The words of a kind for x with each state of the set, lowest first.
 pub fn write_pairs(kind: u32, x: u32, set: u16, out: &mut [u8], limit: usize, start: usize) -> usize
     requires { (kind < 16) × (x < 65536) × (limit ≤ final_words) × (4 * limit ≤ length out.old) }
     ensures { Writes limit (length out.old) out.old start out.new result (map (word_of kind) (pairs_with x set)) }
 {
-    let mut s = set;
     let mut count = start;
-    while s != 0 {
-        let q = lowest(s);
+    for q in StateSet(set) {
         let w = pair_word(kind, x, q);
-        s = without_lowest(s);
         count = push(out, limit, count, w);
     }
     count

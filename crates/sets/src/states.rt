@@ -1,6 +1,7 @@
 // A set of states: sixteen bits, bit q set where state q belongs.
 ghost use Rattle.std.specs.Prelude.{◌≡◌, ◌&&◌, ◌||◌, not, ℕ, ◌<◌, eqb, length};
-ghost use Rattle.sets.specs.States.{has_state, members, states_of, Lowest, Rest};
+ghost use Rattle.std.specs.Iterator.{item_count};
+ghost use Rattle.sets.specs.States.{has_state, members, states_of, Lowest, Rest, TakesLowest};
 
 pub fn has(s: u16, q: u32) -> bool
     requires { q < 16 }
@@ -50,4 +51,25 @@ pub fn without_lowest(s: u16) -> u16
     ensures { Rest s result }
 {
     s & (s - 1)
+}
+
+// The states of a set, ascending.
+#[derive(Clone, Copy)]
+pub struct StateSet(pub u16);
+
+impl Iterator for StateSet {
+    type Item = u32;
+
+    ghost next_gives = { TakesLowest };
+
+    ghost remaining = { item_count (λ s. states_of s.0) };
+
+    fn next(&mut self) -> Option<u32> {
+        let s = self.0;
+        if s == 0 {
+            return None;
+        }
+        self.0 = without_lowest(s);
+        Some(lowest(s))
+    }
 }

@@ -1,6 +1,4 @@
 -- `kinds::find::find_kind` meets its contract. Assumes nothing.
-use Prim.Native.Nat.{◌-◌, ◌/◌}
-use lib.ListN.{length}
 use Rattle.files.specs.Word.{words}
 use Rattle.kinds.specs.Kinds.{of_kind}
 use Rattle.kinds.specs.Seek.{NoneBefore}
@@ -8,6 +6,3 @@ use Rattle.kinds.proofs.find.find_kind.Given as goal
 
 abbrev pub invariant-loop-i : goal.invariant-loop-i
 invariant-loop-i l = NoneBefore (of_kind l.k l.mark) (words l.bytes) l.i
-
-abbrev pub decreases-loop-i : goal.decreases-loop-i
-decreases-loop-i l = length l.bytes / 4 - l.i

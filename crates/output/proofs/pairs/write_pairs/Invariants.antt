@@ -2,8 +2,5 @@
 use Rattle.output.proofs.Spelling.{Spelling}
 use Rattle.output.proofs.pairs.write_pairs.Given as goal
 
-abbrev pub invariant-loop-s : goal.invariant-loop-s
-invariant-loop-s l = Spelling l.limit l.kind l.x l.set l.initial.out l.start l.out l.count l.s
-
-abbrev pub decreases-loop-s : goal.decreases-loop-s
-decreases-loop-s l = l.s
+abbrev pub invariant-loop-q : goal.invariant-loop-q
+invariant-loop-q l = Spelling l.limit l.kind l.x l.set l.initial.out l.start l.out l.count l.q-iterator.0

@@ -1,7 +1,6 @@
 -- `output::settle::settle` meets its contract. Assumes nothing.
-use borrow.Author.Rules.{rules}
 use Rattle.output.proofs.Settling.{settled_by}
 use Rattle.output.proofs.settle.settle.Goals as goal
 
 pub returns : goal.returns
-returns c = search (settled_by, rules)
+returns c = settled_by _ _ c.number.ensures c.withhold.ensures c.clear.ensures

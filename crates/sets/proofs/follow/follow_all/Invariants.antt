@@ -6,8 +6,5 @@ use Rattle.sets.specs.Follow.{MayFollow}
 use Rattle.sets.proofs.Following.{Gathered}
 use Rattle.sets.proofs.follow.follow_all.Given as goal
 
-abbrev pub invariant-loop-s : goal.invariant-loop-s
-invariant-loop-s l = (p : ℕ) → Gathered l.follow l.r l.s p ↔ MayFollow l.follow l.set p
-
-abbrev pub decreases-loop-s : goal.decreases-loop-s
-decreases-loop-s l = l.s
+abbrev pub invariant-loop-q : goal.invariant-loop-q
+invariant-loop-q l = (p : ℕ) → Gathered l.follow l.r l.q-iterator.0 p ↔ MayFollow l.follow l.set p
