@@ -1,8 +1,8 @@
 -- Laws of a reader's loop: a scan of words, or a test of any of them, at the words that are left. There are none, or a first one.
 -- Assumes nothing.
-use mathlib.Core.Path.{◌≡◌, ap, ◌∙◌}
+use mathlib.Core.Path.{◌≡◌, ap, ap₂, ◌∙◌}
 use mathlib.Core.Bool.{Bool, true, false, ◌||◌}
-use mathlib.Core.List.{List}
+use mathlib.Core.List.{List, [], ◌∷◌}
 use Prim.Native.Nat.{ℕ, ◌+◌, ◌≤◌, ◌<◌}
 use native.Mathlib.Numerals.{add-one}
 use lib.ListN.{length, get_or, drop, drop_of_length-le}
@@ -13,6 +13,7 @@ use Rattle.files.specs.declared.cursor.Cursor.{Cursor}
 use Rattle.files.specs.declared.cursor.Step.{Step}
 use Rattle.files.specs.declared.cursor.Step.TheVariants.{Word, End}
 use Rattle.files.specs.Read.{read_at}
+use Rattle.files.specs.Refuse.{◌then◌}
 use Rattle.files.specs.Scan.{scan_words}
 use Rattle.files.proofs.Checks.{refused_first, passed_first}
 use Rattle.files.proofs.Reading.{taken, ended}
@@ -67,3 +68,10 @@ module _ {p : ℕ → Bool} {s : List ℕ} {i : ℕ} (f : Seeking p s i) where
 
   pub seeking_last : length s ≤ i → false ≡ any p s
   seeking_last l = rw (drop_of_length-le s {i = i} l) at f.same
+
+-- a scan that sees more than another, f of it being what the other sees
+module _ {S T : Type 0} (f : S → T) (check : S → ℕ → ℕ) (next : S → ℕ → S) (end : S → ℕ) (check' : T → ℕ → ℕ) (next' : T → ℕ → T) (end' : T → ℕ)
+    (c : (st : S) (w : ℕ) → check st w ≡ check' (f st) w) (n : (st : S) (w : ℕ) → f (next st w) ≡ next' (f st) w) (e : (st : S) → end st ≡ end' (f st)) where
+  pub scan_along : (st : S) (ws : List ℕ) → scan_words check next end st ws ≡ scan_words check' next' end' (f st) ws
+  scan_along st [] = e st
+  scan_along st (w ∷ ws) = ap₂ (λ (a b : ℕ). a then b) (c st w) (scan_along (next st w) ws ∙ ap (λ (t : T). scan_words check' next' end' t ws) (n st w))

@@ -1,46 +1,57 @@
 -- The groups' bytes, word by word: their check, and their words as a value. Assumes nothing.
-use mathlib.Core.Path.{◌≡◌, refl, sym}
-use mathlib.Core.Bool.{Bool, true, false, not}
+use mathlib.Core.Path.{◌≡◌, refl, sym, ◌∙◌}
+use mathlib.Core.Bool.{Bool, true, false, not, ◌&&◌}
 use mathlib.Core.List.{List, [], ◌∷◌}
 use Prim.Native.Nat.{ℕ, ◌+◌, ◌*◌}
 use native.Mathlib.Omega.{arith}
-use borrow.Author.Tests.{ne_eqb}
-use lib.Dec.{T, ltb, lit<}
+use lib.Dec.{T, eqb, ltb, lit<}
 use lib.ListN.{length, get_or, drop}
 use Rattle.sets.specs.Sets.{any}
 use Rattle.files.specs.Word.{words, bytes_of, put_word}
+use Rattle.files.specs.declared.refusal.Refusal.{Refusal}
+use Rattle.files.specs.declared.refusal.Refusal.TheVariants.{WrongGroups}
+use Rattle.files.specs.Refusal.{code}
+use Rattle.files.specs.Refuse.{◌unless◌}
 use Rattle.files.specs.Outcome.{zeros}
 use Rattle.files.specs.Limits.{group_count}
 use Rattle.files.specs.Groups.{is_range, groups_check, Ranges}
-use Rattle.files.specs.Read.{read_at}
-use Rattle.files.specs.declared.cursor.Cursor.{Cursor}
-use Rattle.files.specs.declared.cursor.Step.{Step}
-use Rattle.files.specs.declared.cursor.Step.TheVariants.{Word, End}
-use Rattle.files.proofs.Checks.{checks}
+use Rattle.files.proofs.Checks.{checks, code_some}
 use Rattle.files.proofs.Groups.{groups_ranges}
-use Rattle.files.proofs.Reading.{taken, ended, words_left, words_over}
+use Rattle.files.proofs.Reading.{words_left, words_over}
 
--- there are eight words, and one that is no range stands among them just if one stands among those from k on
-pub record Ranging (s : List ℕ) (k : ℕ) : Type 0 where
+-- there are eight words, and one that is no range stands among them just if one stands among those that are left
+pub record Ranging (s ws : List ℕ) : Type 0 where
   pub eight : length s ≡ 4 * group_count
-  pub same : any (λ w. not (is_range w)) (drop k (words s)) ≡ any (λ w. not (is_range w)) (words s)
+  pub same : any (λ w. not (is_range w)) ws ≡ any (λ w. not (is_range w)) (words s)
 
-pub not_eight : (s : List ℕ) → (length s ≡ 4 * group_count → ⊥) → 16 ≡ groups_check s
-not_eight s n = rw (ne_eqb (length s) (4 * group_count) n)
+pub not_eight : (s : List ℕ) (e : Refusal) → code e ≡ (code WrongGroups unless eqb (length s) (4 * group_count)) → code e ≡ groups_check s
+not_eight s e h = by (eqb (length s) (4 * group_count)) h
+  where
+    by : (b : Bool) → code e ≡ (16 unless b) → code e ≡ (16 unless (b && not (any (λ w. not (is_range w)) (words s))))
+    by true g = absurd (code_some e g)
+    by false g = g
 
-pub ranging_first : (s : List ℕ) → length s ≡ 4 * group_count → Ranging s 0
-ranging_first s e = record { eight = e; same = refl }
+pub ranging_first : (s : List ℕ) {ws : List ℕ} → ws ≡ words s → (code WrongGroups unless eqb (length s) (4 * group_count)) ≡ 0 → Ranging s ws
+ranging_first s e h = record { eight = simp checks at h; same = rw e }
 
-module _ {s : List ℕ} {k : ℕ} {r : Step} (f : Ranging s k) (q : r ≡ read_at s k) where
-  module _ {w : ℕ} {c : Cursor} {b : Bool} (a : r ≡ Word w c) (e : b ≡ is_range w) where
-    pub ranging_more : b ≡ true → Ranging s c.at
-    ranging_more t = let g = f.same in record { eight = f.eight; same = rw ((taken {s = s} {k = k} a q).left, ← e, t) at g }
+module _ {s vs : List ℕ} (f : Ranging s vs) where
+  module _ {w : ℕ} {ws : List ℕ} {b : Bool} (t : vs ≡ w ∷ ws) (e : b ≡ is_range w) where
+    pub ranging_more : (code WrongGroups unless b) ≡ 0 → Ranging s ws
+    ranging_more h = let c = by b h in let g = f.same in record { eight = f.eight; same = rw (t, ← e, c) at g }
+      where
+        by : (b : Bool) → (16 unless b) ≡ 0 → b ≡ true
+        by true h = refl
+        by false h = absurd (omega arith)
 
-    pub ranging_wrong : b ≡ false → 16 ≡ groups_check s
-    ranging_wrong t = let g = f.same in let h = rw ((taken {s = s} {k = k} a q).left, ← e, t) at g in rw (f.eight, ← h)
+    pub ranging_wrong : (x : Refusal) → code x ≡ (code WrongGroups unless b) → code x ≡ groups_check s
+    ranging_wrong x h = by b e h
+      where
+        by : (b : Bool) → b ≡ is_range w → code x ≡ (16 unless b) → code x ≡ groups_check s
+        by true e h = absurd (code_some x h)
+        by false e h = let g = f.same in let k = rw (t, ← e) at g in h ∙ rw (f.eight, ← k)
 
-  pub ranging_last : r ≡ End → 0 ≡ groups_check s
-  ranging_last a = let g = f.same in let h = rw (ended {s = s} {k = k} a q).none at g in rw (f.eight, ← h)
+  pub ranging_last : vs ≡ [] → 0 ≡ groups_check s
+  ranging_last e = let g = f.same in let h = rw e at g in rw (f.eight, ← h)
 
 -- eight words, one by one
 pub eight_words : (s : List ℕ) {a b c d i j k l : ℕ} → groups_check s ≡ 0

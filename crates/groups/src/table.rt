@@ -1,37 +1,25 @@
 // The label groups that travel with a path: eight range words, checked, and read once into a value.
 ghost use Rattle.std.specs.Prelude.{◌≡◌};
 ghost use Rattle.files.specs.Word.{words, bytes_of};
+ghost use Rattle.files.specs.Refusal.{number};
 ghost use Rattle.files.specs.Groups.{groups_check, our_groups};
 
-use files::cursor::{Cursor, Step};
 use files::expr::is_range;
 use files::limits::GROUP_COUNT;
-use files::word::{put_word, word_at};
+use files::refusal::{Refusal, ensure};
+use files::word::{Words, put_word, word_at};
 
 const BYTES: usize = 4 * GROUP_COUNT;
 
 // 16: not just eight words, or one of them is no range.
-pub fn check_groups(groups: &[u8]) -> u32
-    ensures { result ≡ groups_check groups.now }
+pub fn check_groups(groups: &[u8]) -> Result<(), Refusal>
+    ensures { number result ≡ groups_check groups.now }
 {
-    if groups.len() != BYTES {
-        return 16;
+    ensure(groups.len() == BYTES, Refusal::WrongGroups)?;
+    for w in Words::of(groups) {
+        ensure(is_range(w), Refusal::WrongGroups)?;
     }
-    let mut cur = Cursor { at: 0 };
-    loop {
-        match cur.read(groups) {
-            Step::Word(w, next) => {
-                if is_range(w) {
-                    cur = next;
-                } else {
-                    return 16;
-                }
-            }
-            Step::End => {
-                return 0;
-            }
-        }
-    }
+    Ok(())
 }
 
 // The words of accepted groups.

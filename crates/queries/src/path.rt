@@ -1,105 +1,89 @@
 // A path, checked word by word.
-ghost use Rattle.std.specs.Prelude.{◌≡◌, ◌&&◌, [], ◌∷◌, ℕ, suc, ◌-◌, leb, get_or, drop};
+ghost use Rattle.std.specs.Prelude.{◌≡◌, ◌&&◌, suc, ◌-◌, leb, get_or, drop};
 ghost use Rattle.files.specs.Word.{words};
 ghost use Rattle.files.specs.Refuse.{◌then◌, ◌unless◌, size_check};
-ghost use Rattle.files.specs.Path.{is_label, takes as takesOf, word_check, body_check, path_check};
-ghost use Rattle.files.specs.Expr.{expr_check, expr_at};
+ghost use Rattle.files.specs.Refusal.{number};
+ghost use Rattle.files.specs.Path.{takes, word_check, end_check, body_check, path_check};
 ghost use Rattle.files.specs.Limits.{path_words, most_waiting};
+ghost use Rattle.queries.specs.Waiting.{waiting_after};
 
-use files::cursor::{Cursor, Step};
-use files::expr::{ExprWord, read_expr};
+use files::expr::{Operator, check_expr, is_label, read_operator};
 use files::field::labels;
 use files::limits::{MOST_WAITING, PATH_WORDS};
-use files::refuse::{check_file, choose, first, refuse};
-use files::word::word_at;
+use files::refusal::{Refusal, ensure};
+use files::refuse::check_file;
+use files::scan::{Seen, scan};
+use files::word::{Words, word_at};
+use kinds::count::{Mark, count_kind};
 
 // As wide as the count of those that wait.
 const MOST: u32 = MOST_WAITING as u32;
 
-// The operands that an operator takes.
-fn operands(op: u32) -> u32
-    ensures { result ≡ get_or (0 ∷ 2 ∷ 2 ∷ 1 ∷ []) op 0 }
-{
-    choose(op == 3, 1, choose((op == 1) | (op == 2), 2, 0))
-}
-
 // The operands that a word takes.
-fn takes(e: ExprWord) -> u32
-    ensures { (w : ℕ) → e ≡ expr_at w → expr_check w ≡ 0 → result ≡ takesOf w }
+fn takes(w: u32) -> u32
+    ensures { result ≡ takes w }
 {
-    match e {
-        ExprWord::Label(_) => 0,
-        ExprWord::Operator(op) => operands(op),
-        ExprWord::Wrong => 0,
+    if is_label(w) {
+        return 0;
     }
-}
-
-fn is_label(e: ExprWord) -> bool
-    ensures { (w : ℕ) → e ≡ expr_at w → expr_check w ≡ 0 → result ≡ is_label w }
-{
-    match e {
-        ExprWord::Label(_) => true,
-        ExprWord::Operator(_) => false,
-        ExprWord::Wrong => false,
+    match read_operator(w) {
+        Operator::Empty => 0,
+        Operator::Then => 2,
+        Operator::Or => 2,
+        Operator::Star => 1,
     }
 }
 
 // 9: an operand is missing, or too many wait after a word that takes `taken`.
-fn check_waiting(waiting: u32, taken: u32) -> u32
-    ensures { result ≡ (9 unless (leb taken waiting && leb (suc (waiting - taken)) most_waiting)) }
+fn check_waiting(waiting: u32, taken: u32) -> Result<(), Refusal>
+    ensures { number result ≡ (9 unless (leb taken waiting && leb (suc (waiting - taken)) most_waiting)) }
 {
-    if waiting < taken {
-        return 9;
-    }
-    refuse(9, waiting - taken < MOST)
+    ensure(taken <= waiting, Refusal::WrongOperands)?;
+    ensure(waiting - taken < MOST, Refusal::WrongOperands)
 }
 
-// 5: no expression word; then 9.
-fn check_word(waiting: u32, e: ExprWord) -> u32
-    ensures { (w : ℕ) → e ≡ expr_at w → result ≡ word_check most_waiting waiting w }
-{
-    if let ExprWord::Wrong = e {
-        return 5;
+// How many operands wait behind the words so far.
+#[derive(Clone, Copy)]
+struct Waiting(u32);
+
+impl Seen for Waiting {
+    ghost checked = { λ s w. word_check most_waiting s.0 w };
+
+    ghost after = { waiting_after };
+
+    ghost ended = { λ s. end_check s.0 };
+
+    // 5: no expression word; then 9.
+    fn check(self, w: u32) -> Result<(), Refusal> {
+        check_expr(w)?;
+        check_waiting(self.0, takes(w))
     }
-    check_waiting(waiting, takes(e))
+
+    fn then(self, w: u32) -> Waiting {
+        Waiting(self.0 - takes(w) + 1)
+    }
+
+    fn end(self) -> Result<(), Refusal> {
+        ensure(self.0 == 1, Refusal::WrongOperands)
+    }
 }
 
 // The words after the header; at their end one operand waits, and the labels were as many as the header says.
-fn check_body(bytes: &[u8]) -> u32
-    ensures { result ≡ body_check most_waiting (get_or (words bytes.now) 0 0) (drop 1 (words bytes.now)) }
+fn check_body(bytes: &[u8]) -> Result<(), Refusal>
+    ensures { number result ≡ body_check most_waiting (get_or (words bytes.now) 0 0) (drop 1 (words bytes.now)) }
 {
+    scan(Words::body(bytes), Waiting(0))?;
     let n = labels(word_at(bytes, 0)) as usize;
-    let mut waiting = 0;
-    let mut count = 0;
-    let mut cur = Cursor { at: 1 };
-    loop {
-        match cur.read(bytes) {
-            Step::Word(w, next) => {
-                let e = read_expr(w);
-                let number = check_word(waiting, e);
-                if number != 0 {
-                    return number;
-                }
-                waiting = waiting - takes(e) + 1;
-                cur = next;
-                if is_label(e) {
-                    count += 1;
-                }
-            }
-            Step::End => {
-                return first(refuse(9, waiting == 1), refuse(9, count == n));
-            }
-        }
-    }
+    ensure(
+        count_kind(bytes, 1, 5, Mark::Any) == n,
+        Refusal::WrongOperands,
+    )
 }
 
-// The number of the refusal of a path, 0 where it is one.
-pub fn check_path(bytes: &[u8]) -> u32
-    ensures { result ≡ (size_check path_words bytes.now then path_check (words bytes.now)) }
+// A path: its size, its header, its words.
+pub fn check_path(bytes: &[u8]) -> Result<(), Refusal>
+    ensures { number result ≡ (size_check path_words bytes.now then path_check (words bytes.now)) }
 {
-    let n = check_file(bytes, PATH_WORDS, 4, false, true);
-    if n != 0 {
-        return n;
-    }
+    check_file(bytes, PATH_WORDS, 4, false, true)?;
     check_body(bytes)
 }

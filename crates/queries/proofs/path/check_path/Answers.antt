@@ -1,11 +1,11 @@
--- `queries::path::check_path` meets its contract.
--- Assumes nothing.
+-- `queries::path::check_path` meets its contract. Assumes nothing.
 use borrow.Author.Rules.{rules}
+use Rattle.files.proofs.Checks.{code_some}
 use Rattle.files.proofs.Headers.{file_refused, file_passed}
 use Rattle.queries.proofs.path.check_path.Goals as goal
 
-pub returns-then-n-ne0 : goal.returns-then-n-ne0
-returns-then-n-ne0 c = search (file_refused, rules)
+pub returns-in_err-check_file : goal.returns-in_err-check_file
+returns-in_err-check_file c = search (file_refused, code_some, rules)
 
 pub returns : goal.returns
 returns c = search (file_passed, rules)
