@@ -12,11 +12,15 @@ use Rattle.sets.specs.States.{has_state}
 use Rattle.sets.proofs.StateSets.{has_empty}
 use Rattle.files.specs.Limits.{most_waiting}
 use Rattle.files.specs.Groups.{load, Ranges}
-use Rattle.files.specs.Expr.{expr_at}
+use Rattle.std.specs.Prelude.{Result, Ok}
+use Rattle.files.specs.declared.refusal.Refusal.{Refusal}
+use Rattle.files.specs.declared.expr.Operator.{Operator}
+use Rattle.files.specs.Path.{operator_of}
+use Rattle.files.specs.Expr.{operator_number, expr_at}
 use Rattle.files.specs.declared.expr.ExprWord.{ExprWord}
 use Rattle.files.specs.declared.expr.ExprWord.TheVariants as variants
 use Rattle.files.specs.declared.expr.Label.{Label}
-use Rattle.files.proofs.Exprs.{label_told, operator_told}
+use Rattle.files.proofs.Exprs.{label_told, operator_told, operator_back}
 use Rattle.files.proofs.Groups.{load_label}
 use Rattle.labels.specs.declared.interval.LabelSet.{LabelSet}
 use Rattle.paths.specs.declared.letters.Letters.{Letters}
@@ -130,30 +134,17 @@ applicable_as e h = rw e h
 pub does_as : {it it' : Item} {b r : Builder} → it ≡ it' → Does it b r → Does it' b r
 does_as {b = b} {r = r} e h = subst (λ i. Does i b r) e h
 
-pub operator_empty : {k : ℕ} → k ≡ 0 → put_empty ≡ operator_item k
-operator_empty e = rw e
+module _ (groups : List ℕ) (g : Ranges groups) (w : ℕ) {r : Result ExprWord Refusal} (h : r ≡ expr_at w) where
+  pub word_label : {l : Label} → r ≡ Ok (variants.Label l) → put_letter (load groups w) ≡ item (load groups w)
+  word_label q = rw (load_label groups g w, (label_told w h q).1)
 
-pub operator_then : {k : ℕ} → k ≡ 1 → make_then ≡ operator_item k
-operator_then e = rw e
+  pub word_held : {l : Label} {s : LabelSet} → r ≡ Ok (variants.Label l) → s ≡ label_set groups l → HeldBy (load groups w) s
+  word_held q = let (c, t, k) = label_told w h q in resolved groups g w t (rw t at c) k
 
-pub operator_or : {k : ℕ} → k ≡ 2 → make_or ≡ operator_item k
-operator_or e = rw e
-
-pub operator_star : (k : ℕ) → (k ≡ 0 → ⊥) → (k ≡ 1 → ⊥) → (k ≡ 2 → ⊥) → make_star ≡ operator_item k
-operator_star zero a b c = absurd (a refl)
-operator_star (suc zero) a b c = absurd (b refl)
-operator_star (suc (suc zero)) a b c = absurd (c refl)
-operator_star (suc (suc (suc k))) a b c = refl
-
-module _ (groups : List ℕ) (g : Ranges groups) (w : ℕ) {e : ExprWord} (r : e ≡ expr_at w) where
-  pub word_label : {l : Label} → e ≡ variants.Label l → put_letter (load groups w) ≡ item (load groups w)
-  word_label h = rw (load_label groups g w, (label_told w r h).1)
-
-  pub word_held : {l : Label} {s : LabelSet} → e ≡ variants.Label l → s ≡ label_set groups l → HeldBy (load groups w) s
-  word_held h = let (c, t, k) = label_told w r h in resolved groups g w t (rw t at c) k
-
-  pub word_operator : {k : ℕ} → e ≡ variants.Operator k → operator_item k ≡ item (load groups w)
-  word_operator h = let (c, t, k) = operator_told w r h in ap operator_item k ∙ sym (as_operator w t) ∙ ap item (sym (unmoved groups w t))
+  pub word_operator : {o : Operator} → r ≡ Ok (variants.Operator o) → operator_item (operator_number o) ≡ item (load groups w)
+  word_operator q =
+      let (c, t, k) = operator_told w h q in
+      ap operator_item (ap operator_number k ∙ operator_back (operator_of w) (omega arith)) ∙ sym (as_operator w t) ∙ ap item (sym (unmoved groups w t))
 
 -- every label word asks the same
 pub applicable_label : {b : Builder} (w : ℕ) → Applicable (put_letter w) b → Applicable (put_letter 0) b

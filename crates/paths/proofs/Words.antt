@@ -13,12 +13,7 @@ use Rattle.files.specs.Limits.{most_waiting}
 use Rattle.files.specs.Path.{is_label, operator_of, takes, scan, path_check}
 use Rattle.files.specs.Groups.{load, loaded, Ranges}
 use Rattle.files.specs.Expr.{expr_check}
-use Rattle.files.specs.Read.{read_at}
-use Rattle.files.specs.declared.cursor.Cursor.{Cursor}
-use Rattle.files.specs.declared.cursor.Step.{Step}
-use Rattle.files.specs.declared.cursor.Step.TheVariants.{Word, End}
 use Rattle.files.proofs.Checks.{then_iff, checks}
-use Rattle.files.proofs.Reading.{taken, ended}
 use Rattle.files.proofs.Groups.{load_label, load_takes, loaded_checked}
 use Rattle.paths.specs.declared.builder.Builder.{Builder}
 use Rattle.paths.specs.declared.automaton.Automaton.{Automaton}
@@ -116,35 +111,35 @@ module _ {groups : List ℕ} (g : Ranges groups) where
           sized = d.sized ∙ h.sized;
         }
 
--- ---- for the loop over a path's bytes
+-- ---- for the loop over a path's words
 
--- the words from index k on are left, and the groups are ranges
-pub record Reading (groups path : List ℕ) (k : ℕ) (b : Builder) : Type 0 where
+-- the words ws are left, and the groups are ranges
+pub record Reading (groups path ws : List ℕ) (b : Builder) : Type 0 where
   pub ranges : Ranges groups
-  pub left : Building groups (expr_of (drop 1 (loaded groups (words path)))) (drop k (words path)) b
+  pub left : Building groups (expr_of (drop 1 (loaded groups (words path)))) ws b
 
-pub reading_first : (groups path : List ℕ) {b : Builder} → Ranges groups → path_check (words path) ≡ 0 → Starts b → Reading groups path 1 b
-reading_first groups path g ok s = record { ranges = g; left = building_first g (words path) ok s }
+pub reading_first : (groups path : List ℕ) {ws : List ℕ} {b : Builder} → ws ≡ drop 1 (words path) → Ranges groups → path_check (words path) ≡ 0 → Starts b
+    → Reading groups path ws b
+reading_first groups path e g ok s = rw e (record { ranges = g; left = building_first g (words path) ok s })
 
-module _ {groups path : List ℕ} {k : ℕ} {b : Builder} {r : Step} (h : Reading groups path k b) (q : r ≡ read_at path k) where
-  abbrev e : Expr
-  e = expr_of (drop 1 (loaded groups (words path)))
+module _ {groups path vs : List ℕ} {b : Builder} (h : Reading groups path vs b) where
+  module _ {w : ℕ} {ws : List ℕ} (q : vs ≡ w ∷ ws) where
+    rest : Building groups (expr_of (drop 1 (loaded groups (words path)))) (w ∷ ws) b
+    rest = subst (λ l. Building groups (expr_of (drop 1 (loaded groups (words path)))) l b) q h.left
 
-  rest : {w : ℕ} {c : Cursor} → r ≡ Word w c → Building groups e (w ∷ drop c.at (words path)) b
-  rest a = subst (λ l. Building groups e l b) (taken {s = path} {k = k} a q).left h.left
+    pub reading_right : expr_check w ≡ 0
+    reading_right = building_right h.ranges rest
 
-  pub reading_right : {w : ℕ} {c : Cursor} → r ≡ Word w c → expr_check w ≡ 0
-  reading_right a = building_right h.ranges (rest a)
+    pub reading_applicable : Applicable (item (load groups w)) b
+    reading_applicable = building_applicable h.ranges rest
 
-  pub reading_applicable : {w : ℕ} {c : Cursor} → r ≡ Word w c → Applicable (item (load groups w)) b
-  reading_applicable a = building_applicable h.ranges (rest a)
+    pub reading_more : {b' : Builder} → Does (item (load groups w)) b b' → Reading groups path ws b'
+    reading_more d = record { ranges = h.ranges; left = building_more h.ranges rest d }
 
-  pub reading_more : {w : ℕ} {c : Cursor} {b' : Builder} → r ≡ Word w c → Does (item (load groups w)) b b' → Reading groups path c.at b'
-  reading_more a d = record { ranges = h.ranges; left = building_more h.ranges (rest a) d }
-
-  pub reading_last : {f : Automaton} → r ≡ End → Finishes b f → Automates f (expr_of (drop 1 (loaded groups (words path))))
-  reading_last a d =
-      let z = subst (λ l. Building groups e l b) (ended {s = path} {k = k} a q).none h.left in
+  pub reading_last : {f : Automaton} → vs ≡ [] → Finishes b f → Automates f (expr_of (drop 1 (loaded groups (words path))))
+  reading_last q d =
+      let e = expr_of (drop 1 (loaded groups (words path))) in
+      let z = subst (λ l. Building groups e l b) q h.left in
       d e z.seen z.labelled (omega (arith, z.few)) z.computes
 
 -- v is the value of the groups

@@ -12,7 +12,7 @@ use super::builder::{Builder, start, step};
 use super::letters::Letters;
 use super::operand::{Operand, only};
 use super::table::link;
-use files::cursor::{Cursor, Step};
+use files::word::Words;
 use groups::table::read_groups;
 
 // Row q of `follow` holds the positions that may come next in state q.
@@ -50,18 +50,10 @@ pub fn position_automaton(path: &[u8], groups: &[u8]) -> Automaton
 {
     let g = read_groups(groups);
     let mut b = start();
-    let mut cur = Cursor { at: 1 };
-    loop {
-        match cur.read(path) {
-            Step::Word(w, next) => {
-                b = step(b, &g, w);
-                cur = next;
-            }
-            Step::End => {
-                return finish(b);
-            }
-        }
+    for w in Words::body(path) {
+        b = step(b, &g, w);
     }
+    finish(b)
 }
 
 // The positions that read a label.

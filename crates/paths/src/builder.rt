@@ -3,7 +3,7 @@
 ghost use Rattle.std.specs.Prelude.{◌≡◌, ℕ, ◌<◌, length};
 ghost use Rattle.files.specs.Limits.{most_waiting};
 ghost use Rattle.files.specs.Groups.{load, Ranges};
-ghost use Rattle.files.specs.Expr.{expr_check};
+ghost use Rattle.files.specs.Expr.{expr_check, operator_number};
 ghost use Rattle.expressions.specs.Postfix.{put_empty, put_letter, make_then, make_or, make_star};
 ghost use Rattle.expressions.specs.Labels.{operator_item, item};
 ghost use Rattle.labels.specs.Interval.{HeldBy};
@@ -12,7 +12,7 @@ ghost use Rattle.paths.specs.Builder.{Starts, Replaced, Applicable, Does};
 use super::letters::{Letters, add, none};
 use super::operand::{Operand, empty, letter, or, star, then};
 use super::table::link;
-use files::expr::{ExprWord, read_expr};
+use files::expr::{ExprWord, Operator, read_expr};
 use files::limits::MOST_WAITING;
 use labels::interval::{LabelSet, resolve};
 
@@ -111,15 +111,15 @@ fn make_star(b: Builder) -> Builder
     r
 }
 
-fn operate(b: Builder, k: u32) -> Builder
-    requires { Applicable (operator_item k) b }
-    ensures { Does (operator_item k) b result }
+fn operate(b: Builder, op: Operator) -> Builder
+    requires { Applicable (operator_item (operator_number op)) b }
+    ensures { Does (operator_item (operator_number op)) b result }
 {
-    match k {
-        0 => put_nothing(b),
-        1 => make_then(b),
-        2 => make_or(b),
-        _ => make_star(b),
+    match op {
+        Operator::Empty => put_nothing(b),
+        Operator::Then => make_then(b),
+        Operator::Or => make_or(b),
+        Operator::Star => make_star(b),
     }
 }
 
@@ -130,8 +130,8 @@ pub fn step(b: Builder, groups: &[u32], w: u32) -> Builder
     ensures { Does (item (load groups.now w)) b result }
 {
     match read_expr(w) {
-        ExprWord::Label(l) => put_label(b, resolve(groups, l)),
-        ExprWord::Operator(k) => operate(b, k),
-        ExprWord::Wrong => b,
+        Ok(ExprWord::Label(l)) => put_label(b, resolve(groups, l)),
+        Ok(ExprWord::Operator(op)) => operate(b, op),
+        Err(_) => b,
     }
 }

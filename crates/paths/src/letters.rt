@@ -5,7 +5,7 @@ ghost use Rattle.paths.specs.Letters.{reads, AddedLabel, Labelled};
 
 use super::operand::only;
 use labels::interval::{Interval, LabelSet, holds};
-use sets::states::{lowest, with, without_lowest};
+use sets::states::{StateSet, with};
 
 #[derive(Clone, Copy)]
 pub struct Letters {
@@ -46,14 +46,10 @@ pub fn add(l: Letters, s: LabelSet) -> Letters
 pub fn mask(l: Letters, label: u32) -> u16
     ensures { (p : ℕ) → has_state result p ≡ reads l label p }
 {
-    let mut s = l.positions;
-    let mut r = l.outside & s;
-    while s != 0 {
-        let p = lowest(s);
-        let at = p as usize;
-        let i = l.intervals[at];
+    let mut r = l.outside & l.positions;
+    for p in StateSet(l.positions) {
+        let i = l.intervals[p as usize];
         r = r ^ only(holds(i, label), with(0, p));
-        s = without_lowest(s);
     }
     r
 }

@@ -4,18 +4,16 @@ ghost use Rattle.expressions.specs.Fragments.{link};
 ghost use Rattle.paths.specs.Operand.{fragment_in, table_in};
 
 use super::operand::Operand;
-use sets::states::{lowest, without_lowest};
+use sets::states::StateSet;
 
 // What begins b may now also follow what ends a.
 pub fn link(rows: [u16; 16], a: Operand, b: Operand) -> [u16; 16]
     ensures { table_in result ≡ link (table_in rows) (fragment_in a) (fragment_in b) }
 {
     let mut t = rows;
-    let mut s = a.ends;
-    while s != 0 {
-        let q = lowest(s) as usize;
-        t[q] = t[q] | b.begins;
-        s = without_lowest(s);
+    for q in StateSet(a.ends) {
+        let at = q as usize;
+        t[at] = t[at] | b.begins;
     }
     t
 }

@@ -1,7 +1,6 @@
--- `automaton::position_automaton` meets its contract. The invariant: the words that are left make of what is built the automaton of the whole
--- path. Assumes nothing.
+-- `automaton::position_automaton` meets its contract. Assumes nothing.
 use borrow.Author.Rules.{rules}
-use Rattle.files.proofs.Reading.{fewer}
+use Rattle.files.specs.Word.{words}
 use Rattle.groups.proofs.Grouping.{value_ranges}
 use Rattle.paths.proofs.Words.{reading_first, reading_right, reading_applicable, reading_more, reading_last, by_value}
 use Rattle.paths.proofs.automaton.position_automaton.Goals as goal
@@ -10,13 +9,12 @@ pub loop-w-init : goal.loop-w-init
 loop-w-init c = search (reading_first, value_ranges, rules)
 
 pub step-b-requires : goal.step-b-requires
-step-b-requires c = search (reading_right, reading_applicable, rules)
-
-pub loop-w-smaller : goal.loop-w-smaller
-loop-w-smaller c = search (fewer, rules)
+step-b-requires c =
+    let h = c.in-Some.ensures.steps in
+    record { ranges = (c.loop-w.invariant.ranges, reading_right c.loop-w.invariant h); applicable = reading_applicable c.loop-w.invariant h }
 
 pub loop-w-preserved : goal.loop-w-preserved
-loop-w-preserved c = search (reading_more, rules)
+loop-w-preserved c = reading_more c.loop-w.invariant c.in-Some.ensures.steps c.step-b.ensures
 
-pub returns-in-End : goal.returns-in-End
-returns-in-End c = search (reading_last, by_value, rules)
+pub returns : goal.returns
+returns c = by_value _ (words c.args.path.now) c.read_groups-g.ensures (reading_last c.loop-w.invariant c.in-None.ensures.steps.0 c.finish.ensures)

@@ -1,14 +1,13 @@
--- `letters::mask` meets its contract. The invariant: what is gathered, with what the positions that are left still give, are the positions that
--- read the label. Assumes nothing.
-use borrow.Author.Rules.{rules}
+-- `letters::mask` meets its contract. Assumes nothing.
 use Rattle.paths.proofs.Lettering.{masking_first, masking_more, masking_last}
 use Rattle.paths.proofs.letters.mask.Goals as goal
 
-pub loop-s-init : goal.loop-s-init
-loop-s-init c = search (masking_first, rules)
+pub loop-p-init : goal.loop-p-init
+loop-p-init c = rw c.into_iter-p-iterator.ensures.into_iter_gives (masking_first _ _)
 
-pub loop-s-preserved : goal.loop-s-preserved
-loop-s-preserved c = search (masking_more, rules)
+pub loop-p-preserved : goal.loop-p-preserved
+loop-p-preserved c =
+    masking_more _ c.loop-p.invariant c.in-Some.ensures.steps.0 c.in-Some.ensures.steps.1 c.holds.ensures c.with.ensures c.only-r.ensures
 
 pub returns : goal.returns
-returns c = masking_last c.loop-s.invariant c.loop-s-test.false
+returns c = masking_last c.loop-p.invariant c.in-None.ensures.steps.0

@@ -3,8 +3,5 @@
 use Rattle.paths.proofs.Lettering.{Masking}
 use Rattle.paths.proofs.letters.mask.Given as goal
 
-abbrev pub invariant-loop-s : goal.invariant-loop-s
-invariant-loop-s l = Masking l.l l.label l.s l.r
-
-abbrev pub decreases-loop-s : goal.decreases-loop-s
-decreases-loop-s l = l.s
+abbrev pub invariant-loop-p : goal.invariant-loop-p
+invariant-loop-p l = Masking l.l l.label l.p-iterator.0 l.r

@@ -1,13 +1,13 @@
--- `table::link` meets its contract. The invariant: the rows, with what the states that are left still give, are what the whole set gives. Assumes nothing.
+-- `table::link` meets its contract. Assumes nothing.
 use borrow.Author.Rules.{rules}
 use Rattle.paths.proofs.Operands.{linking_first, linking_more, linking_last}
 use Rattle.paths.proofs.table.link.Goals as goal
 
-pub loop-s-init : goal.loop-s-init
-loop-s-init c = search (linking_first, rules)
+pub loop-q-init : goal.loop-q-init
+loop-q-init c = rw c.into_iter-q-iterator.ensures.into_iter_gives (search (linking_first, rules))
 
-pub loop-s-preserved : goal.loop-s-preserved
-loop-s-preserved c = search (linking_more, rules)
+pub loop-q-preserved : goal.loop-q-preserved
+loop-q-preserved c = linking_more c.loop-q.invariant c.in-Some.ensures.steps.0 c.in-Some.ensures.steps.1
 
 pub returns : goal.returns
-returns c = linking_last c.loop-s.invariant c.loop-s-test.false
+returns c = linking_last c.loop-q.invariant c.in-None.ensures.steps.0

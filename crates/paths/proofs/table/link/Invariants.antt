@@ -2,8 +2,5 @@
 use Rattle.paths.proofs.Operands.{Linking}
 use Rattle.paths.proofs.table.link.Given as goal
 
-abbrev pub invariant-loop-s : goal.invariant-loop-s
-invariant-loop-s l = Linking l.b.begins l.initial.t l.initial.s l.t l.s
-
-abbrev pub decreases-loop-s : goal.decreases-loop-s
-decreases-loop-s l = l.s
+abbrev pub invariant-loop-q : goal.invariant-loop-q
+invariant-loop-q l = Linking l.b.begins l.initial.t l.fn.a.ends l.t l.q-iterator.0
