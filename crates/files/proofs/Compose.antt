@@ -14,7 +14,7 @@ use Rattle.sets.proofs.Tests.{either, passed, both, or_iff, eq_iff}
 use Rattle.sets.proofs.Sets.{on_cons, flatten_map_iff, member_iff}
 use Rattle.sets.proofs.Filter.{filter_append, filter_none, any_iff, all_that_iff, map_filter_iff}
 use Rattle.files.specs.Field.{bits, kind_of, node_of, door_of, root_of, target_of, file}
-use Rattle.files.specs.declared.part.Seen.{Seen}
+use Rattle.files.specs.declared.part.PartSeen.{PartSeen}
 use Rattle.files.specs.Part.{is_node, is_edge, is_root, start, scan, part_check, whole_check, nodes, nodes_with, front, edges}
 use Rattle.files.specs.Limits.{part_words}
 use Rattle.files.proofs.Checks.{checks, then_zero}
@@ -44,7 +44,7 @@ pub record Composes (x w : ℕ) (ls : List ℕ) : Type 0 where
   pub links : (v : ℕ) → Mem v ls → Link v
 
 -- edge words and what is behind them
-scan_links : (ls rest : List ℕ) (st : Seen) → Ascending ls → ((w : ℕ) → Mem w ls → Link w) → ((w : ℕ) → Mem w ls → st.last < w) → 0 < st.low
+scan_links : (ls rest : List ℕ) (st : PartSeen) → Ascending ls → ((w : ℕ) → Mem w ls → Link w) → ((w : ℕ) → Mem w ls → st.last < w) → 0 < st.low
     → ((last : ℕ) → scan (record { last = last; low = st.low; rooted = st.rooted }) rest ≡ 0) → scan st (ls ++ rest) ≡ 0
 scan_links [] rest st a k l b z = z st.last
 scan_links (w ∷ ls) rest st (f, a) k l b z =
@@ -73,7 +73,7 @@ module _ (word : ℕ → ℕ) (links : ℕ → List ℕ) where
     pub none : T rooted → (x : ℕ) → Mem x xs → T (root_of (word x)) → ⊥
     pub one : (x y : ℕ) → Mem x xs → Mem y xs → x < y → T (root_of (word x)) → T (root_of (word y)) → ⊥
 
-  pub scan_composed : (xs : List ℕ) (st : Seen) → Ascending xs → All xs → OneRoot st.rooted xs → ((x : ℕ) → Mem x xs → st.low ≤ x) → scan st (composed xs) ≡ 0
+  pub scan_composed : (xs : List ℕ) (st : PartSeen) → Ascending xs → All xs → OneRoot st.rooted xs → ((x : ℕ) → Mem x xs → st.low ≤ x) → scan st (composed xs) ≡ 0
   unfolding flatten
   scan_composed [] st a c r l = refl
   scan_composed (x ∷ xs) st (f, a) c r l =

@@ -19,8 +19,8 @@ use Rattle.files.specs.Outcome.{accepted, refused, outcome, leaves}
 use Rattle.files.specs.Scan.{scan_words, in_order, scan_ordered}
 use Rattle.files.specs.Part.{part_check, whole_check}
 use Rattle.files.specs.Part as part
-use Rattle.files.specs.declared.part.Seen.{Seen}
-use Rattle.files.specs.declared.reply.Seen.{Seen as ReplySeen}
+use Rattle.files.specs.declared.part.PartSeen.{PartSeen}
+use Rattle.files.specs.declared.reply.ReplySeen.{ReplySeen}
 use Rattle.files.specs.Limits.{most_waiting}
 use Rattle.files.specs.Path.{path_check}
 use Rattle.files.specs.Path as path
@@ -125,7 +125,7 @@ size_numbers limit s = search among
 
 -- Parts and wholes
 
-part_word : (st : Seen) (w : ℕ) → Among (5 ∷ 6 ∷ 7 ∷ []) (part.word_check st w)
+part_word : (st : PartSeen) (w : ℕ) → Among (5 ∷ 6 ∷ 7 ∷ []) (part.word_check st w)
 part_word st w = search among depth 8
 
 pub part_numbers : (ws : List ℕ) → Among (2 ∷ 3 ∷ 4 ∷ 5 ∷ 6 ∷ 7 ∷ []) (part_check ws)

@@ -15,7 +15,7 @@ use Rattle.sets.proofs.Tests.{either, is_true, same_test, and_iff, not_iff, impl
 use Rattle.sets.proofs.Filter.{any_iff, all_that_iff, filter_filter, map_filter_iff, map_filter_mono, map_filter_ascending}
 use Rattle.files.specs.Field.{bits, kind_of, size_of, node_of, door_of, root_of, target_of}
 use Rattle.files.specs.Refuse.{header_check}
-use Rattle.files.specs.declared.part.Seen.{Seen}
+use Rattle.files.specs.declared.part.PartSeen.{PartSeen}
 use Rattle.files.specs.Part.{is_node, is_edge, is_root, is_door, start, next, word_check, scan, part_check, whole_check, nodes, roots, doors, front, edges}
 use Rattle.files.proofs.Checks.{then_iff, unless_iff, checks}
 use Rattle.files.proofs.Ordered.{Rising, adds, skips, ends, restarts, scan_checked, scan_rises}
@@ -34,17 +34,17 @@ edge_not_node w e = ne_eqb (kind_of w) 2 (λ n. omega (arith, eqb-true (kind_of 
 ruleset tested = (then_iff, unless_iff, and_iff, implies_iff, not_iff)
 
 -- what is known of a node word and of another word that is accepted after others, and what is seen then
-pub record NodeWord (st : Seen) (w : ℕ) : Type 0 where
+pub record NodeWord (st : PartSeen) (w : ℕ) : Type 0 where
   pub zeros : bits 27 19 w ≡ 0
   pub above : st.low ≤ node_of w
   pub root : T (root_of w) → T (door_of w) × (T st.rooted → ⊥)
 
-pub record EdgeWord (st : Seen) (w : ℕ) : Type 0 where
+pub record EdgeWord (st : PartSeen) (w : ℕ) : Type 0 where
   pub edge : is_edge w ≡ true
   pub behind : 0 < st.low
   pub above : st.last < w
 
-pub node_iff : (st : Seen) (w : ℕ) → is_node w ≡ true → (word_check st w ≡ 0) ↔ NodeWord st w
+pub node_iff : (st : PartSeen) (w : ℕ) → is_node w ≡ true → (word_check st w ≡ 0) ↔ NodeWord st w
 node_iff st w n = rw n (
   λ c.
       let h = simp tested at c in
@@ -52,7 +52,7 @@ node_iff st w n = rw n (
   λ h. simp tested ((eq_iff (bits 27 19 w) 0).1 h.zeros, ((le_iff st.low (node_of w)).1 h.above, h.root)),
 )
 
-pub edge_iff : (st : Seen) (w : ℕ) → is_node w ≡ false → (word_check st w ≡ 0) ↔ EdgeWord st w
+pub edge_iff : (st : PartSeen) (w : ℕ) → is_node w ≡ false → (word_check st w ≡ 0) ↔ EdgeWord st w
 edge_iff st w n = rw n (
   λ c. elim (either (is_edge w)) [
     | inl e ↦ let h = simp checks at (rw e at c) in record { edge = e; behind = h.0; above = h.1 }
@@ -61,21 +61,21 @@ edge_iff st w n = rw n (
   λ h. rw h.edge (simp checks (h.behind, h.above)),
 )
 
-pub next_node : (st : Seen) (w : ℕ) → is_node w ≡ true → next st w ≡ record { last = w; low = suc (node_of w); rooted = st.rooted || root_of w }
+pub next_node : (st : PartSeen) (w : ℕ) → is_node w ≡ true → next st w ≡ record { last = w; low = suc (node_of w); rooted = st.rooted || root_of w }
 next_node st w n = rw n
 
-pub next_edge : (st : Seen) (w : ℕ) → is_node w ≡ false → next st w ≡ record { last = w; low = st.low; rooted = st.rooted }
+pub next_edge : (st : PartSeen) (w : ℕ) → is_node w ≡ false → next st w ≡ record { last = w; low = st.low; rooted = st.rooted }
 next_edge st w n = rw (n, or-false)
 
 -- edge words ascend up to the next node word
-front_rises : (st : Seen) (ws : List ℕ) → scan st ws ≡ 0 → Rising (suc st.last) (front ws)
+front_rises : (st : PartSeen) (ws : List ℕ) → scan st ws ≡ 0 → Rising (suc st.last) (front ws)
 front_rises st ws = scan_rises word_check next (λ st. 0) (λ st. suc st.last) front refl st ws (λ u v vs i c s. elim (either (is_node v)) [
   | inl n ↦ ends (rw (eqb-true (kind_of v) 2 n))
   | inr n ↦ let h = (edge_iff u v n).0 c in adds v (rw h.edge) h.above (omega arith)
 ])
 
 -- at most one root, and none after one
-scan_roots : (st : Seen) (ws : List ℕ) → scan st ws ≡ 0 → length (roots ws) ≤ cond st.rooted 0 1
+scan_roots : (st : PartSeen) (ws : List ℕ) → scan st ws ≡ 0 → length (roots ws) ≤ cond st.rooted 0 1
 scan_roots st [] s = omega arith
 scan_roots st (w ∷ ws) s =
     let (c, t) = (then_iff (word_check st w) (scan (next st w) ws)).0 s in
@@ -89,7 +89,7 @@ scan_roots st (w ∷ ws) s =
     go false false f l = l
 
 -- a root is a door
-scan_doors : (st : Seen) (ws : List ℕ) → scan st ws ≡ 0 → (w : ℕ) → Mem w ws → T (is_root w) → T (is_door w)
+scan_doors : (st : PartSeen) (ws : List ℕ) → scan st ws ≡ 0 → (w : ℕ) → Mem w ws → T (is_root w) → T (is_door w)
 scan_doors st ws s w m t =
     let (n, r) = (and_iff (is_node w) (root_of w)).0 t in
     let (u, c) = scan_checked word_check next (λ st. 0) st ws s w m in

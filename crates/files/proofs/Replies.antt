@@ -15,14 +15,14 @@ use Rattle.sets.specs.Sets.{Mem, here, there, Ascending}
 use Rattle.sets.proofs.Tests.{either}
 use Rattle.files.specs.Word.{words}
 use Rattle.files.specs.Field.{kind_of, labels_of, node_of, door_root_of, state_of, pair_of, pair_node, pair_state, word_of}
-use Rattle.files.specs.declared.reply.Seen.{Seen}
+use Rattle.files.specs.declared.reply.ReplySeen.{ReplySeen}
 use Rattle.files.specs.Reply.{start, is_door_word, is_row, is_reach, door_check, row_check, reach_check, word_check, end_check, next, scan, reply_check, doors, front, row, rows}
 use Rattle.files.proofs.Checks.{checks, then_iff}
 use Rattle.files.proofs.Fields.{holder_made}
 use Rattle.files.proofs.Ordered.{Rising, adds, skips, ends, restarts, scan_checked, scan_rises}
 use Rattle.files.proofs.Scans.{Scanning}
 
-module _ (n : ℕ) (st : Seen) (w : ℕ) (ws : List ℕ) where
+module _ (n : ℕ) (st : ReplySeen) (w : ℕ) (ws : List ℕ) where
   pub door_scan : kind_of w ≡ 8 → door_check st w ≡ 0
       → scan n (record { last = w; low = suc (node_of w); state = 0; rooted = st.rooted || door_root_of w }) ws ≡ 0 → scan n st (w ∷ ws) ≡ 0
   door_scan k c r = rw k ((then_iff (door_check st w) _).1 (c, r))
@@ -36,14 +36,14 @@ module _ (n : ℕ) (st : Seen) (w : ℕ) (ws : List ℕ) where
   reach_scan k c r = rw k ((then_iff (reach_check n st w) _).1 (c, r))
 
 -- no state of an accepted reply's reach words is above n
-pub reach_states : (n : ℕ) (st : Seen) (ws : List ℕ) → scan n st ws ≡ 0 → (w : ℕ) → Mem w ws → T (is_reach w) → state_of w ≤ n
+pub reach_states : (n : ℕ) (st : ReplySeen) (ws : List ℕ) → scan n st ws ≡ 0 → (w : ℕ) → Mem w ws → T (is_reach w) → state_of w ≤ n
 reach_states n st ws s w m t = (simp checks at (rw (eqb→eq (kind_of w) 10 t) at (scan_checked (word_check n) next end_check st ws s w m).1)).1.0
 
 -- An accepted reply's doors ascend, and the pairs of a row do, if its words have 32 bits.
 
 module _ (n : ℕ) where
   -- a reach word is made of its kind and its pair, so pairs are in the words' order; a row word is below every reach word
-  front_rises : (st : Seen) (ws : List ℕ) → ((w : ℕ) → Mem w ws → w < 2 ^ 32) → scan n st ws ≡ 0 → Rising (suc st.last - word_of 10 0) (front ws)
+  front_rises : (st : ReplySeen) (ws : List ℕ) → ((w : ℕ) → Mem w ws → w < 2 ^ 32) → scan n st ws ≡ 0 → Rising (suc st.last - word_of 10 0) (front ws)
   front_rises st ws b = scan_rises (word_check n) next end_check (λ st. suc st.last - word_of 10 0) front refl st ws (λ u v vs i c s. elim (either (is_reach v)) [
     | inl r ↦
         let k = eqb-true (kind_of v) 10 r in
@@ -53,7 +53,7 @@ module _ (n : ℕ) where
     | inr r ↦ ends (rw r)
   ])
 
-  row_rises : (q : ℕ) (st : Seen) (ws : List ℕ) → ((w : ℕ) → Mem w ws → w < 2 ^ 32) → scan n st ws ≡ 0 → Rising 0 (row ws q)
+  row_rises : (q : ℕ) (st : ReplySeen) (ws : List ℕ) → ((w : ℕ) → Mem w ws → w < 2 ^ 32) → scan n st ws ≡ 0 → Rising 0 (row ws q)
   row_rises q st ws b = scan_rises (word_check n) next end_check (λ st. 0) (λ ws. row ws q) refl st ws (λ u v vs i c s. elim (either (is_row v && eqb (state_of v) q)) [
     | inl r ↦ restarts (rw r (λ y m. omega arith, (front_rises (next u v) vs (λ w m. b w (i w (there m))) s).1))
     | inr r ↦ elim (either (is_row v || is_reach v)) [ inl k ↦ skips (rw (r, k)) (omega arith) | inr k ↦ ends (rw (r, k)) ]
@@ -74,7 +74,7 @@ module _ (n : ℕ) where
 
 -- The reader: a word's check and what it leaves by the word's kind, and the first turn of its loop.
 
-module _ (n : ℕ) (st : Seen) (w : ℕ) {a : Bool} (ea : a ≡ is_door_word w) where
+module _ (n : ℕ) (st : ReplySeen) (w : ℕ) {a : Bool} (ea : a ≡ is_door_word w) where
   pub word_door : {r : ℕ} → a ≡ true → r ≡ door_check st w → r ≡ word_check n st w
   word_door h e = rw (← ea, h) e
 
@@ -89,13 +89,13 @@ module _ (n : ℕ) (st : Seen) (w : ℕ) {a : Bool} (ea : a ≡ is_door_word w) 
       pub word_other : c ≡ false → 5 ≡ word_check n st w
       word_other h = rw (← ea, ha, ← eb, hb, ← ec, h)
 
-module _ (st : Seen) (w : ℕ) {a : Bool} (ea : a ≡ is_door_word w) where
+module _ (st : ReplySeen) (w : ℕ) {a : Bool} (ea : a ≡ is_door_word w) where
   pub next_door : {d : Bool} {x : ℕ} → a ≡ true → x ≡ node_of w → d ≡ door_root_of w
-      → ◌≡◌ {A = Seen} (record { last = w; low = x + 1; state = 0; rooted = st.rooted || d }) (next st w)
+      → ◌≡◌ {A = ReplySeen} (record { last = w; low = x + 1; state = 0; rooted = st.rooted || d }) (next st w)
   next_door h ex ed = rw (← ea, h, ex, ed, add-one)
 
   pub next_other : {b : Bool} {q y : ℕ} → a ≡ false → b ≡ is_row w → q ≡ state_of w → y ≡ cond b (q + 1) st.state
-      → ◌≡◌ {A = Seen} (record { last = w; low = st.low; state = y; rooted = st.rooted }) (next st w)
+      → ◌≡◌ {A = ReplySeen} (record { last = w; low = st.low; state = y; rooted = st.rooted }) (next st w)
   next_other h eb eq ey = rw (← ea, h, ey, eb, eq, add-one)
 
 pub reply_first : (s : List ℕ) {h n : ℕ} → h ≡ get_or (words s) 0 0 → n ≡ labels_of h

@@ -2,7 +2,7 @@
 -- one root, and a root is a door. A whole: a part with one root and every target among its nodes. Document 01, "Part".
 use Rattle.std.specs.Prelude.{ℕ, suc, Bool, true, false, cond, not, ◌&&◌, ◌||◌, List, [], ◌∷◌, map, eqb, leb, ltb}
 use Rattle.sets.specs.Sets.{set_of, filter, minus, member, any}
-use Rattle.files.specs.declared.part.Seen.{Seen}
+use Rattle.files.specs.declared.part.PartSeen.{PartSeen}
 use Rattle.files.specs.Field.{bits, kind_of, node_of, door_of, root_of, stopped_of, target_of}
 use Rattle.files.specs.Refuse.{◌then◌, ◌unless◌, file_check}
 use Rattle.files.specs.Scan.{scan_words}
@@ -22,31 +22,31 @@ is_door w = is_node w && door_of w
 abbrev pub is_stopped : ℕ → Bool
 is_stopped w = is_node w && stopped_of w
 
--- What the words so far say of the next, as the code keeps it (`Seen`): the word before it, the least number of a next node (0: no node
+-- What the words so far say of the next, as the code keeps it (`PartSeen`): the word before it, the least number of a next node (0: no node
 -- yet), whether there was a root.
 
 -- before the first word after the header
-abbrev pub start : Seen
+abbrev pub start : PartSeen
 start = record { last = 0; low = 0; rooted = false }
 
-abbrev pub next : Seen → ℕ → Seen
+abbrev pub next : PartSeen → ℕ → PartSeen
 next st w =
     record { last = w; low = cond (is_node w) (suc (node_of w)) st.low; rooted = st.rooted || is_root w }
 
-abbrev pub node_check : Seen → ℕ → ℕ
+abbrev pub node_check : PartSeen → ℕ → ℕ
 node_check st w =
     5 unless eqb (bits 27 19 w) 0
     then 6 unless leb st.low (node_of w)
     then 7 unless (not (root_of w) || (door_of w && not st.rooted))
 
 -- the last word is a node, which is below every edge, or the edge before
-abbrev pub edge_check : Seen → ℕ → ℕ
+abbrev pub edge_check : PartSeen → ℕ → ℕ
 edge_check st w = 5 unless ltb 0 st.low then 6 unless ltb st.last w
 
-abbrev pub word_check : Seen → ℕ → ℕ
+abbrev pub word_check : PartSeen → ℕ → ℕ
 word_check st w = cond (is_node w) (node_check st w) (cond (is_edge w) (edge_check st w) 5)
 
-abbrev pub scan : Seen → List ℕ → ℕ
+abbrev pub scan : PartSeen → List ℕ → ℕ
 scan st ws = scan_words word_check next (λ st. 0) st ws
 
 abbrev pub part_check : List ℕ → ℕ

@@ -7,7 +7,7 @@ use crate::field::{door, kind, root, stopped};
 // What the words so far say of the next: the word before it, the least number of a next node (0: no node yet), whether
 // there was a root.
 #[derive(Clone, Copy)]
-pub struct Seen {
+pub struct PartSeen {
     pub last: u32,
     pub low: u32,
     pub rooted: bool,

@@ -8,7 +8,7 @@ use crate::field::{kind, node};
 // What the words so far say of the next: the word before it, the least node of a next door (0: no door yet), the least
 // state of a next row of this door, whether there was a root.
 #[derive(Clone, Copy)]
-pub struct Seen {
+pub struct ReplySeen {
     pub last: u32,
     pub low: u32,
     pub state: u32,

@@ -14,7 +14,7 @@ use Rattle.sets.specs.Sets.{Mem, here, there, Ascending, Distinct, filter}
 use Rattle.sets.proofs.Sets.{flatten_map_iff}
 use Rattle.sets.proofs.Filter.{filter_append, filter_none, filter_all}
 use Rattle.files.specs.Field.{kind_of, node_of, root_of, door_root_of, state_of, pair, pair_node, pair_state, door_word, row_word, reach_word}
-use Rattle.files.specs.declared.reply.Seen.{Seen}
+use Rattle.files.specs.declared.reply.ReplySeen.{ReplySeen}
 use Rattle.files.specs.Reply.{start, is_door_word, is_row, is_reach, scan, doors, roots, front, row, rows}
 use Rattle.files.proofs.Checks.{checks}
 use Rattle.files.proofs.Fields.{Door, door, Row, Holder, holder, node_below, pair_node_lem, pair_state_lem}
@@ -50,7 +50,7 @@ module _ (n : ℕ) (small : n < 16) where
   Rows f qs = (q : ℕ) → Mem q qs → (q ≤ n) × Good n (f q)
 
   module _ (low : ℕ) (rooted : Bool) where
-    abbrev seen : ℕ → ℕ → Seen
+    abbrev seen : ℕ → ℕ → ReplySeen
     seen last state = record { last = last; low = low; state = state; rooted = rooted }
 
     -- words that are accepted where a row of a state from `least` on may come, and behind a reach word where a pair from `least` on may

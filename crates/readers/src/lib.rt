@@ -1,4 +1,4 @@
-// The reader of a part. It answers the number of the refusal, 0 where there is none.
+// The reader of a part.
 #![tactic(auto)]
 
 pub mod part;

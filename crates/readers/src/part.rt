@@ -1,85 +1,95 @@
-// A part, checked word by word. Each check answers the number of the refusal, 0 where there is none.
-ghost use Rattle.std.specs.Prelude.{◌≡◌, drop};
+// A part, checked word by word.
+ghost use Rattle.std.specs.Prelude.{◌≡◌};
 ghost use Rattle.files.specs.Word.{words};
 ghost use Rattle.files.specs.Refuse.{◌then◌, size_check};
-ghost use Rattle.files.specs.Part.{start, next, node_check, edge_check, word_check, scan, part_check};
+ghost use Rattle.files.specs.Refusal.{number};
+ghost use Rattle.files.specs.Part.{next, node_check, edge_check, word_check, part_check};
 ghost use Rattle.files.specs.Limits.{part_words};
 
-use files::cursor::{Cursor, Step};
 use files::field::{door, node, root};
 use files::limits::PART_WORDS;
-use files::part::{Seen, is_edge, is_node, is_root};
-use files::refuse::{check_file, choose, first, refuse};
+use files::part::{PartSeen, is_edge, is_node, is_root};
+use files::refusal::{Refusal, ensure};
+use files::refuse::check_file;
+use files::scan::{Seen, scan};
+use files::word::Words;
 
-fn check_node(st: Seen, w: u32) -> u32
-    ensures { result ≡ node_check st w }
+fn check_node(seen: PartSeen, w: u32) -> Result<(), Refusal>
+    ensures { number result ≡ node_check seen w }
 {
     let clean = w / 0x8_0000 % 0x200 == 0;
-    let ascends = st.low <= node(w);
-    let sole = !root(w) | (door(w) & !st.rooted);
-    first(refuse(5, clean), first(refuse(6, ascends), refuse(7, sole)))
+    let ascends = seen.low <= node(w);
+    let sole = !root(w) | (door(w) & !seen.rooted);
+    ensure(clean, Refusal::WrongWord)?;
+    ensure(ascends, Refusal::NotAscending)?;
+    ensure(sole, Refusal::WrongRoot)
 }
 
-fn check_edge(st: Seen, w: u32) -> u32
-    ensures { result ≡ edge_check st w }
+fn check_edge(seen: PartSeen, w: u32) -> Result<(), Refusal>
+    ensures { number result ≡ edge_check seen w }
 {
-    first(refuse(5, 0 < st.low), refuse(6, st.last < w))
+    ensure(0 < seen.low, Refusal::WrongWord)?;
+    ensure(seen.last < w, Refusal::NotAscending)
 }
 
-fn check_word(st: Seen, w: u32) -> u32
-    ensures { result ≡ word_check st w }
+fn check_word(seen: PartSeen, w: u32) -> Result<(), Refusal>
+    ensures { number result ≡ word_check seen w }
 {
-    choose(
-        is_node(w),
-        check_node(st, w),
-        choose(is_edge(w), check_edge(st, w), 5),
-    )
-}
-
-fn seen_next(st: Seen, w: u32) -> Seen
-    ensures { result ≡ next st w }
-{
-    Seen {
-        last: w,
-        low: choose(is_node(w), node(w) + 1, st.low),
-        rooted: st.rooted | is_root(w),
+    if is_node(w) {
+        check_node(seen, w)
+    } else if is_edge(w) {
+        check_edge(seen, w)
+    } else {
+        Err(Refusal::WrongWord)
     }
 }
 
-// The words after the header.
-fn scan_words(bytes: &[u8]) -> u32
-    ensures { result ≡ scan start (drop 1 (words bytes.now)) }
+fn seen_next(seen: PartSeen, w: u32) -> PartSeen
+    ensures { result ≡ next seen w }
 {
-    let mut st = Seen {
+    PartSeen {
+        last: w,
+        low: if is_node(w) { node(w) + 1 } else { seen.low },
+        rooted: seen.rooted | is_root(w),
+    }
+}
+
+#[derive(Clone, Copy)]
+struct Reader {
+    seen: PartSeen,
+}
+
+impl Seen for Reader {
+    ghost checked = { λ r w. word_check r.seen w };
+
+    ghost after = { λ r w. record { seen = next r.seen w } };
+
+    ghost ended = { λ r. 0 };
+
+    fn check(self, w: u32) -> Result<(), Refusal> {
+        check_word(self.seen, w)
+    }
+
+    fn then(self, w: u32) -> Reader {
+        Reader {
+            seen: seen_next(self.seen, w),
+        }
+    }
+
+    fn end(self) -> Result<(), Refusal> {
+        Ok(())
+    }
+}
+
+// A refusal, or bytes that are a part.
+pub fn check_part(bytes: &[u8]) -> Result<(), Refusal>
+    ensures { number result ≡ (size_check part_words bytes.now then part_check (words bytes.now)) }
+{
+    check_file(bytes, PART_WORDS, 1, true, false)?;
+    let seen = PartSeen {
         last: 0,
         low: 0,
         rooted: false,
     };
-    let mut cur = Cursor { at: 1 };
-    loop {
-        match cur.read(bytes) {
-            Step::Word(w, next) => {
-                let n = check_word(st, w);
-                if n != 0 {
-                    return n;
-                }
-                st = seen_next(st, w);
-                cur = next;
-            }
-            Step::End => {
-                return 0;
-            }
-        }
-    }
-}
-
-// The number of the refusal of a part, 0 where it is one.
-pub fn check_part(bytes: &[u8]) -> u32
-    ensures { result ≡ (size_check part_words bytes.now then part_check (words bytes.now)) }
-{
-    let n = check_file(bytes, PART_WORDS, 1, true, false);
-    if n != 0 {
-        return n;
-    }
-    scan_words(bytes)
+    scan(Words::body(bytes), Reader { seen })
 }

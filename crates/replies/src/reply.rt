@@ -1,115 +1,127 @@
 // A first reply, checked word by word.
 ghost use Rattle.std.specs.Prelude.{◌≡◌, get_or, drop};
 ghost use Rattle.files.specs.Word.{words};
-ghost use Rattle.files.specs.Field.{door_root_of, state_of};
-ghost use Rattle.files.specs.Reply.{is_door_word, is_row, is_reach, next as nextSeen, door_check, row_check, reach_check, word_check, end_check, reply_check};
+ghost use Rattle.files.specs.Refusal.{number};
+ghost use Rattle.files.specs.Reply.{next, door_check, row_check, reach_check, word_check, end_check, reply_check};
 
-use files::cursor::{Cursor, Step};
-use files::field::{kind, labels, node, state};
-use files::refuse::{choose, first, refuse};
-use files::reply::{Seen, door_root, is_door_word, is_reach, is_row};
-use files::word::word_at;
+use files::field::{labels, node, state};
+use files::refusal::{Refusal, ensure};
+use files::reply::{ReplySeen, door_root, is_door_word, is_reach, is_row};
+use files::scan::{Seen, scan};
+use files::word::{Words, word_at};
 
 // An empty row shows at the word after it.
-fn check_door(st: Seen, w: u32) -> u32
-    ensures { result ≡ door_check st w }
+fn check_door(seen: ReplySeen, w: u32) -> Result<(), Refusal>
+    ensures { number result ≡ door_check seen w }
 {
-    let formed = (w / 0x2_0000 % 0x800 == 0) & !is_row(st.last);
-    let ascends = st.low <= node(w);
-    let sole = !door_root(w) | !st.rooted;
-    first(
-        refuse(5, formed),
-        first(refuse(6, ascends), refuse(7, sole)),
-    )
+    let formed = (w / 0x2_0000 % 0x800 == 0) & !is_row(seen.last);
+    let sole = !door_root(w) | !seen.rooted;
+    ensure(formed, Refusal::WrongWord)?;
+    ensure(seen.low <= node(w), Refusal::NotAscending)?;
+    ensure(sole, Refusal::WrongRoot)
 }
 
-fn check_row(n: u32, st: Seen, w: u32) -> u32
-    ensures { result ≡ row_check n st w }
+fn check_row(n: u32, seen: ReplySeen, w: u32) -> Result<(), Refusal>
+    ensures { number result ≡ row_check n seen w }
 {
     let q = state(w);
-    let formed = (w / 16 % 0x100_0000 == 0) & (0 < st.low) & !is_row(st.last);
-    first(
-        refuse(5, formed),
-        first(refuse(10, q <= n), refuse(6, st.state <= q)),
-    )
+    let formed = (w / 16 % 0x100_0000 == 0) & (0 < seen.low) & !is_row(seen.last);
+    ensure(formed, Refusal::WrongWord)?;
+    ensure(q <= n, Refusal::StateTooHigh)?;
+    ensure(seen.state <= q, Refusal::NotAscending)
 }
 
-fn check_reach(n: u32, st: Seen, w: u32) -> u32
-    ensures { result ≡ reach_check n st w }
+fn check_reach(n: u32, seen: ReplySeen, w: u32) -> Result<(), Refusal>
+    ensures { number result ≡ reach_check n seen w }
 {
-    let formed = (w / 0x10_0000 % 0x100 == 0) & (is_row(st.last) | is_reach(st.last));
-    first(
-        refuse(5, formed),
-        first(refuse(10, state(w) <= n), refuse(6, st.last < w)),
-    )
+    let formed = (w / 0x10_0000 % 0x100 == 0) & (is_row(seen.last) | is_reach(seen.last));
+    ensure(formed, Refusal::WrongWord)?;
+    ensure(state(w) <= n, Refusal::StateTooHigh)?;
+    ensure(seen.last < w, Refusal::NotAscending)
 }
 
-fn check_word(n: u32, st: Seen, w: u32) -> u32
-    ensures { result ≡ word_check n st w }
+fn check_word(n: u32, seen: ReplySeen, w: u32) -> Result<(), Refusal>
+    ensures { number result ≡ word_check n seen w }
 {
     if is_door_word(w) {
-        return check_door(st, w);
+        check_door(seen, w)
+    } else if is_row(w) {
+        check_row(n, seen, w)
+    } else if is_reach(w) {
+        check_reach(n, seen, w)
+    } else {
+        Err(Refusal::WrongWord)
     }
-    if is_row(w) {
-        return check_row(n, st, w);
-    }
-    if is_reach(w) {
-        return check_reach(n, st, w);
-    }
-    5
 }
 
-fn seen_next(st: Seen, w: u32) -> Seen
-    ensures { result ≡ nextSeen st w }
+fn seen_next(seen: ReplySeen, w: u32) -> ReplySeen
+    ensures { result ≡ next seen w }
 {
     if is_door_word(w) {
-        return Seen {
+        ReplySeen {
             last: w,
             low: node(w) + 1,
             state: 0,
-            rooted: st.rooted | door_root(w),
-        };
-    }
-    Seen {
-        last: w,
-        low: st.low,
-        state: choose(is_row(w), state(w) + 1, st.state),
-        rooted: st.rooted,
+            rooted: seen.rooted | door_root(w),
+        }
+    } else if is_row(w) {
+        ReplySeen {
+            last: w,
+            state: state(w) + 1,
+            ..seen
+        }
+    } else {
+        ReplySeen { last: w, ..seen }
     }
 }
 
 // An empty row at the end.
-fn check_end(st: Seen) -> u32
-    ensures { result ≡ end_check st }
+fn check_end(seen: ReplySeen) -> Result<(), Refusal>
+    ensures { number result ≡ end_check seen }
 {
-    refuse(5, !is_row(st.last))
+    ensure(!is_row(seen.last), Refusal::WrongWord)
+}
+
+// The highest state that the reply's header allows, and what was seen of the words.
+#[derive(Clone, Copy)]
+struct Reader {
+    n: u32,
+    seen: ReplySeen,
+}
+
+impl Seen for Reader {
+    ghost checked = { λ r w. word_check r.n r.seen w };
+
+    ghost after = { λ r w. record { n = r.n; seen = next r.seen w } };
+
+    ghost ended = { λ r. end_check r.seen };
+
+    fn check(self, w: u32) -> Result<(), Refusal> {
+        check_word(self.n, self.seen, w)
+    }
+
+    fn then(self, w: u32) -> Reader {
+        Reader {
+            n: self.n,
+            seen: seen_next(self.seen, w),
+        }
+    }
+
+    fn end(self) -> Result<(), Refusal> {
+        check_end(self.seen)
+    }
 }
 
 // The words after the header of a first reply.
-pub fn check_reply(file: &[u8]) -> u32
-    ensures { result ≡ reply_check (get_or (words file.now) 0 0) (drop 1 (words file.now)) }
+pub fn check_reply(file: &[u8]) -> Result<(), Refusal>
+    ensures { number result ≡ reply_check (get_or (words file.now) 0 0) (drop 1 (words file.now)) }
 {
     let n = labels(word_at(file, 0));
-    let mut st = Seen {
+    let seen = ReplySeen {
         last: 0,
         low: 0,
         state: 0,
         rooted: false,
     };
-    let mut cur = Cursor { at: 1 };
-    loop {
-        match cur.read(file) {
-            Step::Word(w, next) => {
-                let r = check_word(n, st, w);
-                if r != 0 {
-                    return r;
-                }
-                st = seen_next(st, w);
-                cur = next;
-            }
-            Step::End => {
-                return check_end(st);
-            }
-        }
-    }
+    scan(Words::body(file), Reader { n, seen })
 }

@@ -19,7 +19,7 @@ use Rattle.sets.proofs.Members.{members_in, in_members}
 use Rattle.sets.proofs.StateSets.{has_empty}
 use Rattle.files.specs.Field.{label_of, target_of}
 use Rattle.files.specs.Part.{is_node, is_edge, part_check, scan, start, word_check, next}
-use Rattle.files.specs.declared.part.Seen.{Seen}
+use Rattle.files.specs.declared.part.PartSeen.{PartSeen}
 use Rattle.files.proofs.Checks.{then_iff}
 use Rattle.files.proofs.Parts.{part_read, edge_iff}
 use Rattle.expressions.specs.Expr.{Expr, count}
@@ -60,7 +60,7 @@ turns_weaker ws a v w w' done mid done' h t e g y k table is s =
 
 -- ---- words by position
 
-words_kind : (st : Seen) (ws : List ℕ) (k : ℕ) → scan st ws ≡ 0 → k < length ws → is_node (get_or ws k 0) ≡ false → is_edge (get_or ws k 0) ≡ true
+words_kind : (st : PartSeen) (ws : List ℕ) (k : ℕ) → scan st ws ≡ 0 → k < length ws → is_node (get_or ws k 0) ≡ false → is_edge (get_or ws k 0) ≡ true
 words_kind st [] k s l n = absurd (omega arith)
 words_kind st (w ∷ ws) zero s l n = ((edge_iff st w n).0 ((then_iff (word_check st w) _).0 s).0).edge
 words_kind st (w ∷ ws) (suc k) s l n = words_kind (next st w) ws k ((then_iff (word_check st w) _).0 s).1 (omega arith) n

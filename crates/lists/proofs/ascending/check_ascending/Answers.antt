@@ -1,22 +1,23 @@
 -- `lists::ascending::check_ascending` meets its contract.
 -- Assumes nothing.
+use mathlib.Core.Path.{◌≡◌, refl}
+use mathlib.Core.List.{List}
+use Prim.Native.Nat.{ℕ}
 use borrow.Author.Rules.{rules}
-use mathlib.Core.Path.{refl}
-use Rattle.files.proofs.Reading.{fewer}
-use Rattle.files.proofs.Scans.{scanning_refused, scanning_more, scanning_last}
+use Rattle.lists.specs.declared.ascending.Listed.{Listed}
+use Rattle.lists.specs.declared.ascending.Reader.{Reader}
+use Rattle.lists.specs.Listed.{alone_check}
+use Rattle.files.specs.Scan.{in_order, scan_words, scan_ordered}
+use Rattle.files.proofs.Scans.{scan_kept}
 use Rattle.lists.proofs.ascending.check_ascending.Goals as goal
 
-pub loop-w-init : goal.loop-w-init
-loop-w-init c = record { same = refl }
+kept : (listed : Listed) (n : ℕ) (ws : List ℕ)
+    → scan_words (λ (r : Reader) w. in_order (alone_check r.listed r.n) r.last w) (λ r w. record { listed = r.listed; n = r.n; last = w }) (λ r. 0)
+    (record { listed = listed; n = n; last = 0 }) ws
+    ≡ scan_ordered (alone_check listed n) 0 ws
+kept listed n =
+    scan_kept (in_order (alone_check listed n)) (λ last w. w) (λ last. 0) _ _ _ (λ last. record { listed = listed; n = n; last = last }) (λ last w. refl)
+    (λ last w. refl) (λ last. refl) 0
 
-pub returns-then-number-ne0 : goal.returns-then-number-ne0
-returns-then-number-ne0 c = search (scanning_refused, rules)
-
-pub loop-w-smaller : goal.loop-w-smaller
-loop-w-smaller c = search (fewer, rules)
-
-pub loop-w-preserved : goal.loop-w-preserved
-loop-w-preserved c = search (scanning_more, rules)
-
-pub returns-in-End : goal.returns-in-End
-returns-in-End c = search (scanning_last, rules)
+pub returns : goal.returns
+returns c = search (kept, rules)
