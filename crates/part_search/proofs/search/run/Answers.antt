@@ -77,7 +77,7 @@ pub loop-top-smaller : goal.loop-top-smaller
 loop-top-smaller c = (turn (goal.at.loop-top-smaller c).After-slice_known-in-loop-top-2-1).1.less
 
 pub loop-top-preserved : goal.loop-top-preserved
-loop-top-preserved c = ((turn (goal.at.loop-top-preserved c).After-slice_known-in-loop-top-2-1).0, (turn (goal.at.loop-top-preserved c).After-slice_known-in-loop-top-2-1).1.next, c.walk-top.ensures.waiting_2)
+loop-top-preserved c = ((turn (goal.at.loop-top-preserved c).After-slice_known-in-loop-top-2-1).0, (turn (goal.at.loop-top-preserved c).After-slice_known-in-loop-top-2-1).1.next, c.walk-top.ensures.stacked)
 
 pub returns : goal.returns
 returns c =
