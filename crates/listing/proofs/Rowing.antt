@@ -47,9 +47,6 @@ pub record Counting (w : List ℕ) (k n : ℕ) : Type 0 where
 pub counting_more : {w : List ℕ} {k n : ℕ} (i s c : ℕ) → Counting w k n → i ≡ place_of w k → s ≡ reached_of w i → c ≡ length (states_of s) → Counting w (k + 1) (n + c)
 counting_more {w} {k} {n} i s c p e f g = record { is = λ ws. rw (add-one) (simp (length-append, length-map) (rw (← e, ← f) (omega (arith, p.is ws, g)))) }
 
-pub counting_all : {w : List ℕ} {k n t : ℕ} → Counting w k n → k ≤ t → t ≤ k → (ws : List ℕ) → n ≡ length (pairs_up_to ws w t)
-counting_all {k = k} {t = t} p h l ws = let e : t ≡ k = omega arith in rw e (p.is ws)
-
 -- ---- the row
 
 -- the row word and the reach words behind it
