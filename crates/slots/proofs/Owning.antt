@@ -52,9 +52,6 @@ pub record Owning (ws w : List ℕ) (last i : ℕ) : Type 0 where
   pub done : (j : ℕ) → 0 < j → j < i → Owner ws (half w owners_base j) j
   pub before : 1 < i → Owner ws last (i - 1)
 
-pub own_none : (ws w : List ℕ) → Owning ws w 0 1
-own_none ws w = record { pos = omega arith; done = λ j p l. absurd (omega arith); before = λ l. absurd (omega arith) }
-
 module _ (ws w : List ℕ) (last i o : ℕ) (c : part_check ws ≡ 0) (l : i < length ws) (s : Owning ws w last i) (is : o ≡ cond (node_at ws i) i last) where
   on_node : node_at ws i ≡ true → Owner ws o i
   on_node n =
