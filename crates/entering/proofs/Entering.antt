@@ -205,9 +205,6 @@ module _ (ws : List ℕ) (t : ℕ) (w : List ℕ) (s m top : ℕ) (roomy : Roomy
       (rw (gained_here, ← is, has_or, new_has p) (gain (has_state old p) (has_state m p)))
       (λ x n. rw (gained_other x n) (sym (or-false (is_reached w x p)))) j
 
-  pub gained_roomy : Roomy ws t gained
-  gained_roomy = record { few = roomy.few; long = omega (arith, roomy.long, length_put w reached_base s (bit_or old new)); places = roomy.places }
-
   pub gained_waiting : Waiting ws t gained top
   gained_waiting =
       stacked_same (length ws) (waits_in ws w) (waits_in ws gained) (place_in t w) (place_in t gained) top
@@ -255,9 +252,6 @@ module _ (ws : List ℕ) (t : ℕ) (w : List ℕ) (s m top : ℕ) (roomy : Roomy
 
 -- ---- pairs are entered a slot after the other
 
-pub walk_none : (ws : List ℕ) (t : ℕ) (Hit : ℕ → ℕ → Type 0) (w : List ℕ) → ((j p : ℕ) → Hit j p → ⊥) → Walked ws t Hit w w
-walk_none ws t Hit w none = record { grown = grown_refl ws t w; only = λ j p l h. inl h; all = λ j p l h. absurd (none j p h) }
-
 -- slot s is entered in the states of m: the pairs of Hit, with those, are those of Hit'
 module _ (ws : List ℕ) (t : ℕ) (Hit Hit' : ℕ → ℕ → Type 0) (w w' w'' : List ℕ) (s m : ℕ) (had : Walked ws t Hit w w') (now : Entered ws t w' w'' s m)
     (same : (j p : ℕ) → Hit' j p ↔ (Hit j p ⊎ ((j ≡ s) × (has_state m p ≡ true)))) where
@@ -275,15 +269,6 @@ module _ (ws : List ℕ) (t : ℕ) (Hit Hit' : ℕ → ℕ → Type 0) (w w' w''
 
   pub walk_more : Walked ws t Hit' w w''
   walk_more = record { grown = grown_trans had.grown now.grown; only = more_only; all = more_all }
-
--- a walk over some pairs is one over equal pairs
-pub walk_same : {ws : List ℕ} {t : ℕ} {Hit Hit' : ℕ → ℕ → Type 0} {w w' : List ℕ} → ((j p : ℕ) → Hit j p ↔ Hit' j p) → Walked ws t Hit w w' → Walked ws t Hit' w w'
-walk_same h x =
-    record {
-      grown = x.grown;
-      only = λ j p l m. ⊎_elim (λ a. inl a) (λ a. inr ((h j p).0 a)) (x.only j p l m);
-      all = λ j p l m. x.all j p l ((h j p).1 m);
-    }
 
 -- the stack stands behind the outside targets, inside its table
 pub waiting_room : (ws : List ℕ) (t : ℕ) (w : List ℕ) (top : ℕ) → Roomy ws t w → Waiting ws t w top → t + top ≤ part_words

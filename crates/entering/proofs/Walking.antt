@@ -1,7 +1,7 @@
 -- The edge words of a node, one after the other, in tables that a search left as they were. Assumes nothing.
 use mathlib.Core.Path.{◌≡◌, sym, ◌∙◌}
 use mathlib.Core.Logic.{◌⊎◌, inl, inr, ⊎_elim, ◌↔◌}
-use mathlib.Core.Bool.{true, false}
+use mathlib.Core.Bool.{true}
 use mathlib.Core.List.{List}
 use Prim.Native.Nat.{ℕ, ◌+◌, ◌≤◌, ◌<◌}
 use native.Mathlib.Omega.{arith}
@@ -9,7 +9,7 @@ use lib.Bits.{bit_and}
 use lib.ListN.{length}
 use Rattle.sets.specs.States.{has_state}
 use Rattle.files.specs.Limits.{part_words}
-use Rattle.sets.proofs.Cases.{and_left, and_right, and_intro, lt_or_le, clash}
+use Rattle.sets.proofs.Cases.{and_left, and_right, and_intro, lt_or_le}
 use Rattle.sets.proofs.StateSets.{has_and}
 use Rattle.slots.proofs.Places.{edge_below, edge_no_node}
 use Rattle.slots.specs.Slots.{node_at, edge_at, slot_of, mask_of, Kept}
@@ -19,36 +19,12 @@ use Rattle.entering.specs.Entering.{Edge, Hit}
 abbrev pub Run : List ℕ → ℕ → ℕ → Type 0
 Run ws i x = (i < x) × ((k : ℕ) → i < k → k < x → edge_at ws k ≡ true)
 
-pub run_none : (ws : List ℕ) (i : ℕ) → Run ws i (i + 1)
-run_none ws i = (omega arith, λ k a b. absurd (omega arith))
-
 pub run_more : (ws : List ℕ) (i x : ℕ) → Run ws i x → edge_at ws x ≡ true → Run ws i (x + 1)
 run_more ws i x r e =
     (omega (arith, r.0), λ k a b. ⊎_elim (λ (l : k < x). r.1 k a l) (λ l. let q : k ≡ x = omega arith in rw q e) (lt_or_le k x))
 
 module _ (ws w : List ℕ) (i u : ℕ) where
-  pub hit_none : (j p : ℕ) → Hit ws w i u (i + 1) j p → ⊥
-  hit_none j p ((x, d), m) = omega (arith, d.behind.after, d.before)
-
   module _ (x : ℕ) (run : Run ws i x) where
-    -- past the last edge word
-    pub hit_all : edge_at ws x ≡ false → (j p : ℕ) → Hit ws w i u x j p ↔ Hit ws w i u (length ws) j p
-    hit_all f j p = (
-      λ ((y, d), m). ((y, record { behind = d.behind; before = d.behind.below; target = d.target; mask = d.mask }), m),
-      λ ((y, d), m). (
-        (
-          y,
-          record {
-            behind = d.behind;
-            before = ⊎_elim (λ l. l) (λ l. absurd (clash (d.behind.edges x run.0 l) f)) (lt_or_le y x);
-            target = d.target;
-            mask = d.mask;
-          },
-        ),
-        m,
-      ),
-    )
-
     -- one more edge word
     module _ (node : node_at ws i ≡ true) (edge : edge_at ws x ≡ true) (s m : ℕ) (is : s ≡ slot_of w x) (has : m ≡ mask_of w x) (j p : ℕ) where
       hit_split : Hit ws w i u (x + 1) j p → Hit ws w i u x j p ⊎ ((j ≡ s) × (has_state (bit_and m u) p ≡ true))

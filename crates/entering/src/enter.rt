@@ -14,7 +14,7 @@ fn wait(part: &[u8], work: &mut [u8], outside: usize, s: usize, m: u16, top: usi
     requires roomy { Roomy (words part.now) outside work.old × (s < length (words part.now)) × (node_at (words part.now) s ≡ true) × (0 < m) }
     requires waiting { Waiting (words part.now) outside work.old top }
     ensures waits { Waits (words part.now) outside work.old work.new s m }
-    ensures waiting_2 { Waiting (words part.now) outside work.new result }
+    ensures stacked { Waiting (words part.now) outside work.new result }
 {
     let pending = get16(work, PENDING, s);
     put16(work, PENDING, s, pending | m);
@@ -29,7 +29,7 @@ fn wait(part: &[u8], work: &mut [u8], outside: usize, s: usize, m: u16, top: usi
 pub fn enter(part: &[u8], work: &mut [u8], outside: usize, s: usize, m: u16, top: usize) -> usize
     requires { Roomy (words part.now) outside work.old × (s < length (words part.now)) × Waiting (words part.now) outside work.old top }
     ensures entered { Entered (words part.now) outside work.old work.new s m }
-    ensures waiting { Waiting (words part.now) outside work.new result }
+    ensures stacked { Waiting (words part.now) outside work.new result }
 {
     let old = get16(work, REACHED, s);
     let new = m & !old;
@@ -49,7 +49,7 @@ pub fn walk(part: &[u8], work: &mut [u8], outside: usize, i: usize, u: u16, heig
     requires laid { Laid (words part.now) outside work.old × (i < length (words part.now)) × (node_at (words part.now) i ≡ true) }
     requires waiting { Waiting (words part.now) outside work.old height }
     ensures walked { Walked (words part.now) outside (Hit (words part.now) work.old i u (length (words part.now))) work.old work.new }
-    ensures waiting_2 { Waiting (words part.now) outside work.new result }
+    ensures stacked { Waiting (words part.now) outside work.new result }
 {
     let mut x = i + 1;
     let mut top = height;

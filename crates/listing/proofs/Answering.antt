@@ -2,9 +2,9 @@
 use mathlib.Core.Path.{◌≡◌, refl, sym, ◌∙◌, ap, subst}
 use mathlib.Core.Logic.Iff
 use mathlib.Core.Logic.{◌↔◌, inl, ⊎_elim}
-use mathlib.Core.Bool.{Bool, true, false, not, ◌&&◌}
+use mathlib.Core.Bool.{true, false, not, ◌&&◌}
 use mathlib.Core.List.Memᴰ
-use mathlib.Core.List.{List, [], ◌∷◌, map, map-map}
+use mathlib.Core.List.{List, map, map-map}
 use Prim.Native.Nat.{ℕ, ◌+◌, ◌^◌, ◌<◌}
 use native.Mathlib.Omega.{arith}
 use native.Mathlib.Nat.{zero-add}
@@ -28,10 +28,10 @@ use Rattle.files.specs.Part.{running}
 use Rattle.files.proofs.Fields.{node_below}
 use Rattle.files.proofs.Blocks.{running_iff}
 use Rattle.output.specs.Writer.{Writes}
-use Rattle.output.proofs.Writing.{Adding, adding_none, adding_more, writes_none}
+use Rattle.output.proofs.Writing.{Adding, adding_none, adding_more}
 use Rattle.output.proofs.Ranges.{members_more}
 use Rattle.output.proofs.Ranges.{members_ascending}
-use Rattle.expressions.specs.Expr.{Expr, count}
+use Rattle.expressions.specs.Expr.{Expr}
 use Rattle.expressions.specs.Positions.{accepts}
 use Rattle.walks.specs.Product.{step_in, answers}
 use Rattle.slots.specs.Slots.{node_at, stopped_at, number, reached_of, is_reached, Laid}
@@ -48,15 +48,6 @@ number_below ws i = node_below (get_or ws i 0)
 
 pub number_small : (ws : List ℕ) (i : ℕ) {x : ℕ} → x ≡ number ws i → x < 65536
 number_small ws i e = omega (arith, number_below ws i)
-
-module _ {limit n : ℕ} (part w : List ℕ) (accepts i : ℕ) where
-  -- an answer was written, or there is none
-  pub answer_some : {b : Bool} {v r count : ℕ} {out out' : List ℕ} → b ≡ true → b ≡ lands part w accepts i → v ≡ answer_word (number part i)
-      → Writes limit n out count out' r (v ∷ []) → Writes limit n out count out' r (answer_here part w accepts i)
-  answer_some h e f g = rw (← e, h, ← f) g
-
-  pub answer_none : {b : Bool} {count : ℕ} {out : List ℕ} → b ≡ false → b ≡ lands part w accepts i → Writes limit n out count out count (answer_here part w accepts i)
-  answer_none {count = count} {out = out} h e = rw (← e, h) (writes_none limit n out count)
 
 -- no answers yet, and those of one position more
 pub answers_none : (limit : ℕ) (part w : List ℕ) (accepts : ℕ) (out : List ℕ) (start : ℕ) → Adding limit out start out start (answer_words part w accepts 0)

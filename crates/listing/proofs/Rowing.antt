@@ -27,11 +27,6 @@ pub targets_more : (part w : List ℕ) (k : ℕ) {limit : ℕ} {out₀ : List �
 targets_more part w k p same f =
     rw (add-one, map_append reach_word (pairs_up_to part w k)) (adding_more (map reach_word (pairs_at part w k)) p same f)
 
-pub targets_all : (part w : List ℕ) (k : ℕ) {limit : ℕ} {out₀ : List ℕ} {start : ℕ} {out : List ℕ} {count t : ℕ}
-    → Adding limit out₀ start out count (map reach_word (pairs_up_to part w k)) → k ≤ t → t ≤ k
-    → Puts limit (length out₀) out₀ start out (map reach_word (pairs_up_to part w t))
-targets_all part w k {t = t} p h l us r = let e : t ≡ k = omega arith in rw e (p.written us r).out_is
-
 -- ---- how many they are
 
 pub states_few : (s : ℕ) → length (states_of s) ≤ 16
@@ -43,12 +38,6 @@ pairs_few ws w (suc t) = simp (length-append, length-map) (omega (arith, pairs_f
 
 pub record Counting (w : List ℕ) (k n : ℕ) : Type 0 where
   pub is : (ws : List ℕ) → n ≡ length (pairs_up_to ws w k)
-
-pub counting_more : {w : List ℕ} {k n : ℕ} (i s c : ℕ) → Counting w k n → i ≡ place_of w k → s ≡ reached_of w i → c ≡ length (states_of s) → Counting w (k + 1) (n + c)
-counting_more {w} {k} {n} i s c p e f g = record { is = λ ws. rw (add-one) (simp (length-append, length-map) (rw (← e, ← f) (omega (arith, p.is ws, g)))) }
-
-pub counting_all : {w : List ℕ} {k n t : ℕ} → Counting w k n → k ≤ t → t ≤ k → (ws : List ℕ) → n ≡ length (pairs_up_to ws w t)
-counting_all {k = k} {t = t} p h l ws = let e : t ≡ k = omega arith in rw e (p.is ws)
 
 -- ---- the row
 

@@ -61,10 +61,8 @@ pub fn write_answers(
 {
     let n = part.len() / 4;
     let mut count = start;
-    let mut i = 0;
-    while i < n {
+    for i in 0..n {
         count = write_answer(part, work, accepts, i, out, limit, count);
-        i += 1;
     }
     count
 }

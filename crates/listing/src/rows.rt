@@ -38,10 +38,8 @@ fn write_targets(part: &[u8], work: &[u8], t: usize, out: &mut [u8], limit: usiz
     ensures { Puts limit (length out.old) out.old start out.new (map reach_word (pairs_up_to (words part.now) work.now t)) }
 {
     let mut at = start;
-    let mut k = 0;
-    while k < t {
+    for k in 0..t {
         at = write_target(part, work, k, out, limit, at);
-        k += 1;
     }
 }
 
@@ -51,11 +49,9 @@ pub fn row_length(work: &[u8], t: usize) -> usize
     ensures { (ws : List ℕ) → result ≡ length (pairs_up_to ws work.now t) }
 {
     let mut n: usize = 0;
-    let mut k = 0;
-    while k < t {
+    for k in 0..t {
         let i = place_at(work, k);
         n += size(states_at(work, i)) as usize;
-        k += 1;
     }
     n
 }

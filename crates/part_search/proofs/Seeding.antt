@@ -26,7 +26,7 @@ use Rattle.expressions.specs.Expr.{Expr}
 use Rattle.slots.specs.Slots.{reached_base, pending_base, node_at, number, reached_of, pending_of, is_reached, is_pending, Laid, Kept, waits_in, place_in}
 use Rattle.entering.specs.Entering.{Entered, Waiting}
 use Rattle.part_search.specs.Search.{Begun, StepClosed, Marks, Sought, Blank, Forgot, Fresh, Seeded}
-use Rattle.slots.proofs.Storing.{kept_refl, kept_trans, kept_sym, kept_reached, kept_pending, laid_kept}
+use Rattle.slots.proofs.Storing.{kept_trans, kept_sym, kept_reached, kept_pending, laid_kept}
 use Rattle.part_search.proofs.Stepping.{step_kept, step_from, step_inside}
 use Rattle.entering.proofs.Entering.{waits_no}
 use Rattle.slots.proofs.Places.{node_below}
@@ -101,9 +101,6 @@ module _ (ws w : List ℕ) (i : ℕ) (hi : i < length ws) (few : length ws ≤ p
 pub record Forgetting (ws : List ℕ) (t : ℕ) (w w' : List ℕ) (i : ℕ) : Type 0 where
   pub kept : Kept ws t w w'
   pub done : (j : ℕ) → j < i → (reached_of w' j ≡ 0) × (node_at ws j ≡ true → pending_of w' j ≡ 0)
-
-pub forget_none : (ws : List ℕ) (t : ℕ) (w : List ℕ) → Forgetting ws t w w 0
-forget_none ws t w = record { kept = kept_refl ws t w; done = λ j l. absurd (omega arith) }
 
 pub forget_more : {ws : List ℕ} {t : ℕ} {w w' w'' : List ℕ} {i : ℕ} → i < part_words → Forgetting ws t w w' i → Forgot ws w' w'' i → Forgetting ws t w w'' (i + 1)
 forget_more {ws} {t} {w} {w'} {w''} {i} b f x =

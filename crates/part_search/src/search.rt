@@ -47,7 +47,6 @@ fn forget(part: &[u8], work: &mut [u8], i: usize)
     put16(work, REACHED, i, 0);
     if is_node(part, i) {
         put16(work, PENDING, i, 0);
-        return;
     }
 }
 
@@ -57,9 +56,7 @@ pub fn reset(part: &[u8], work: &mut [u8], outside: usize)
     ensures { Fresh (words part.now) outside work.old work.new }
 {
     let n = part.len() / 4;
-    let mut i = 0;
-    while i < n {
+    for i in 0..n {
         forget(part, work, i);
-        i += 1;
     }
 }

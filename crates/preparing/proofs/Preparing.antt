@@ -90,10 +90,6 @@ pub record Filling (ws : List ℕ) (reading : ℕ → ℕ → Bool) (w w' : List
   pub unmoved : Unmoved w w'
   pub done : (y : ℕ) → y < x → Masking ws reading w' y
 
-pub fill_none : (ws : List ℕ) (reading : ℕ → ℕ → Bool) (w : List ℕ) → Filling ws reading w w 0
-fill_none ws reading w =
-    record { unmoved = record { long = refl; slots = λ x l. refl; places = λ k. refl }; done = λ y l. absurd (omega arith) }
-
 pub fill_more : {ws : List ℕ} {reading : ℕ → ℕ → Bool} {w w' w'' : List ℕ} {x : ℕ} → x < part_words → Filling ws reading w w' x → Filled ws reading w' w'' x → Filling ws reading w w'' (x + 1)
 fill_more {ws} {reading} {w} {w'} {w''} {x} b f n =
     record {

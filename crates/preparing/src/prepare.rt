@@ -56,12 +56,10 @@ fn fill(part: &[u8], a: Automaton, work: &mut [u8])
     ensures { AllFilled (words part.now) (reads a.letters) work.old work.new }
 {
     let n = part.len() / 4;
-    let mut x = 0;
     let mut idle = false;
-    while x < n {
+    for x in 0..n {
         fill_at(part, a, work, x, idle);
         idle = idle_behind(part, x, idle);
-        x += 1;
     }
 }
 

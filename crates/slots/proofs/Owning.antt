@@ -1,5 +1,5 @@
 -- The node word of each word of an accepted part, by position: their numbers do not fall. Assumes nothing.
-use mathlib.Core.Path.{◌≡◌, refl, sym, ap, subst, ◌∙◌}
+use mathlib.Core.Path.{◌≡◌, sym, ap, subst, ◌∙◌}
 use mathlib.Core.Logic.{inl, inr, ⊎_elim}
 use mathlib.Core.Bool.{Bool, true, false, cond}
 use mathlib.Core.List.{List, [], ◌∷◌}
@@ -52,9 +52,6 @@ pub record Owning (ws w : List ℕ) (last i : ℕ) : Type 0 where
   pub done : (j : ℕ) → 0 < j → j < i → Owner ws (half w owners_base j) j
   pub before : 1 < i → Owner ws last (i - 1)
 
-pub own_none : (ws w : List ℕ) → Owning ws w 0 1
-own_none ws w = record { pos = omega arith; done = λ j p l. absurd (omega arith); before = λ l. absurd (omega arith) }
-
 module _ (ws w : List ℕ) (last i o : ℕ) (c : part_check ws ≡ 0) (l : i < length ws) (s : Owning ws w last i) (is : o ≡ cond (node_at ws i) i last) where
   on_node : node_at ws i ≡ true → Owner ws o i
   on_node n =
@@ -79,10 +76,6 @@ module _ (ws w : List ℕ) (last i o : ℕ) (c : part_check ws ≡ 0) (l : i < l
             ⊎_elim (λ (e : j ≡ i). rw (e, half_same w owners_base i o (omega arith)) own_next) (λ d. rw (half_other w owners_base i o j d) (s.done j p (omega arith))) (eq_or_ne j i);
         before = λ b. rw z own_next;
       })
-
--- nothing behind them
-pub only_none : (ws w : List ℕ) → OwnersOnly ws w w
-only_none ws w = record { rest = λ b j l. refl }
 
 pub only_more : {ws w₀ w : List ℕ} {i : ℕ} (o : ℕ) (w' : List ℕ) → OwnersOnly ws w₀ w → i < length ws → w' ≡ put_half w owners_base i o → OwnersOnly ws w₀ w'
 only_more {ws} {w₀} {w} {i} o w' f l q = rw q (record { rest = λ b j k. half_apart w owners_base i o b j (inr (omega arith)) ∙ f.rest b j k })

@@ -14,7 +14,7 @@ room b =
 pub returns-then-pending-ne0 : goal.returns-then-pending-ne0
 returns-then-pending-ne0 c =
     rw c.put16.ensures
-    (let h = wait_again _ _ _ _ _ _ c.requires.roomy.0 c.requires.roomy.1 c.requires.roomy.2 c.requires.roomy.3 c.requires.waiting _ c.get16-pending.ensures c.if-pending-ne0.true in record { waits = h.0; waiting_2 = h.1 })
+    (let h = wait_again _ _ _ _ _ _ c.requires.roomy.0 c.requires.roomy.1 c.requires.roomy.2 c.requires.roomy.3 c.requires.waiting _ c.get16-pending.ensures c.if-pending-ne0.true in record { waits = h.0; stacked = h.1 })
 
 pub overflow_add-outside : goal.overflow_add-outside
 overflow_add-outside c = omega (arith, room (goal.at.overflow_add-outside c).Else-pending-ne0)
@@ -28,4 +28,4 @@ overflow_add-result c = omega (arith, room (goal.at.overflow_add-result c).Else-
 pub returns : goal.returns
 returns c =
     rw (c.put16-2.ensures, c.put16.ensures)
-    (let h = wait_first _ _ _ _ _ _ c.requires.roomy.0 c.requires.roomy.1 c.requires.roomy.2 c.requires.roomy.3 c.requires.waiting _ c.get16-pending.ensures c.if-pending-ne0.false in record { waits = h.0; waiting_2 = h.1 })
+    (let h = wait_first _ _ _ _ _ _ c.requires.roomy.0 c.requires.roomy.1 c.requires.roomy.2 c.requires.roomy.3 c.requires.waiting _ c.get16-pending.ensures c.if-pending-ne0.false in record { waits = h.0; stacked = h.1 })

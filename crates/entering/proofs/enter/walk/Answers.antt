@@ -9,9 +9,9 @@ use Rattle.files.specs.Word.{words}
 use Rattle.files.specs.Limits.{part_words, work_bytes}
 use Rattle.slots.specs.Slots.{edge_at}
 use Rattle.slots.proofs.Storing.{roomy_kept}
-use Rattle.entering.proofs.Entering.{walk_none, walk_more, walk_same}
+use Rattle.entering.proofs.Entering.{walk_more}
 use Rattle.slots.proofs.Places.{edge_below, edge_no_node}
-use Rattle.entering.proofs.Walking.{run_none, run_more, hit_none, hit_more, hit_all}
+use Rattle.entering.proofs.Walking.{run_more, hit_more}
 use Rattle.entering.proofs.enter.walk.Goals.{In-loop-work}
 use Rattle.entering.proofs.enter.walk.Goals as goal
 
@@ -24,16 +24,6 @@ room : (c : In-loop-work)
 room c =
     let l = c.requires.laid.0.roomy in
     (edge_below (words c.args.part.now) c.loop-work.x (edge c), l.few, omega (arith, l.long, c.loop-work.invariant.1.grown.kept.long))
-
-pub overflow_add-x : goal.overflow_add-x
-overflow_add-x c = omega (arith, c.requires.laid.0.roomy.few)
-
-pub loop-work-init : goal.loop-work-init
-loop-work-init c = (
-  run_none (words c.args.part.now) c.args.i,
-  walk_none (words c.args.part.now) c.args.outside _ c.args.work.now (hit_none (words c.args.part.now) c.args.work.now c.args.i c.args.u),
-  c.requires.waiting,
-)
 
 pub get16-s-requires : goal.get16-s-requires
 get16-s-requires c = omega (arith, room (goal.at.get16-s-requires c).In-loop-work)
@@ -65,9 +55,5 @@ loop-work-preserved c =
       walk_more ws c.args.outside _ _ c.args.work.now c.loop-work.work c.enter-top.new.work _ _ c.loop-work.invariant.1 c.enter-top.ensures.entered
           (hit_more ws c.args.work.now c.args.i c.args.u c.loop-work.x c.loop-work.invariant.0 c.requires.laid.2 (edge (goal.at.loop-work-preserved c).In-loop-work) c.get16-s.result c.get16-m.result
           (c.get16-s.ensures ∙ k.slots c.loop-work.x b) (c.get16-m.ensures ∙ k.masks c.loop-work.x b (edge_no_node ws c.loop-work.x (edge (goal.at.loop-work-preserved c).In-loop-work)))),
-      c.enter-top.ensures.waiting,
+      c.enter-top.ensures.stacked,
     )
-
-pub returns : goal.returns
-returns c =
-    let ws = words c.args.part.now in record { walked = walk_same (hit_all ws c.args.work.now c.args.i c.args.u c.loop-work.x c.loop-work.invariant.0 (sym c.is_edge.ensures ∙ c.loop-work-test.false)) c.loop-work.invariant.1; waiting_2 = c.loop-work.invariant.2 }

@@ -5,6 +5,3 @@ use Rattle.listing.proofs.answers.answer_at.Goals as goal
 
 pub answer_word-requires : goal.answer_word-requires
 answer_word-requires c = search (number_small, rules)
-
-pub returns : goal.returns
-returns c = cc

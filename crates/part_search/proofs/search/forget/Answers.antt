@@ -7,6 +7,6 @@ pub returns-then-is_node : goal.returns-then-is_node
 returns-then-is_node c =
     rw (c.put16-then-is_node.ensures, c.put16.ensures) (forgot_node _ _ _ c.requires.0 c.requires.1 c.requires.2 (sym c.is_node.ensures ∙ c.if-is_node.true))
 
-pub returns : goal.returns
-returns c =
+pub returns-else-is_node : goal.returns-else-is_node
+returns-else-is_node c =
     rw c.put16.ensures (forgot_edge _ _ _ c.requires.0 c.requires.1 c.requires.2 (sym c.is_node.ensures ∙ c.if-is_node.false))

@@ -5,7 +5,7 @@ use lib.ListN.{length}
 use Rattle.files.specs.Word.{words}
 use Rattle.files.proofs.Words.{words_length}
 use Rattle.files.specs.Limits.{part_words, work_bytes}
-use Rattle.part_search.proofs.Seeding.{forget_none, forget_more, forget_all}
+use Rattle.part_search.proofs.Seeding.{forget_more, forget_all}
 use Rattle.part_search.proofs.search.reset.Goals.{In-loop-i}
 use Rattle.part_search.proofs.search.reset.Goals as goal
 
@@ -14,17 +14,14 @@ room : (t : In-loop-i)
     → (t.loop-i.i < length (words t.args.part.now)) × (length (words t.args.part.now) ≤ part_words) × (work_bytes ≤ length t.loop-i.work)
 room t =
     let l = t.requires.roomy in
-    (omega (arith, words_length t.args.part.now, t.loop-i-test.true), l.few, omega (arith, l.long, t.loop-i.invariant.0.kept.long))
-
-pub loop-i-init : goal.loop-i-init
-loop-i-init c = (forget_none _ _ _, omega arith)
+    (omega (arith, words_length t.args.part.now, t.loop-i-test.true), l.few, omega (arith, l.long, t.loop-i.invariant.kept.long))
 
 pub forget-requires : goal.forget-requires
 forget-requires c = room (goal.at.forget-requires c).In-loop-i
 
 pub loop-i-preserved : goal.loop-i-preserved
-loop-i-preserved c = (forget_more (omega (arith, room (goal.at.loop-i-preserved c).In-loop-i)) c.loop-i.invariant.0 c.forget.ensures, omega arith)
+loop-i-preserved c = forget_more (omega (arith, room (goal.at.loop-i-preserved c).In-loop-i)) c.loop-i.invariant c.forget.ensures
 
 pub returns : goal.returns
 returns c =
-    forget_all (omega (arith, words_length c.args.part.now, c.loop-i-test.false)) c.requires c.loop-i.invariant.0
+    forget_all (omega (arith, words_length c.args.part.now, c.loop-i-test.false)) c.requires c.loop-i.invariant

@@ -11,7 +11,7 @@ use Rattle.part_search.specs.Search.{Step}
 use Rattle.slots.proofs.Storing.{kept_refl, kept_trans, roomy_kept, laid_kept}
 use Rattle.entering.proofs.Entering.{waiting_room}
 use Rattle.part_search.proofs.Turning.{turn_start, top_below, pop_node, pop_kept, pop_stack, turned, turn_end}
-use Rattle.part_search.proofs.search.run.Goals.{After-get16-i, After-slice_known-in-loop-top-2-1, In-loop-top}
+use Rattle.part_search.proofs.search.run.Goals.{After-get16-i, After-walk-top, In-loop-top}
 use Rattle.part_search.proofs.search.run.Goals as goal
 
 -- the tables have room for the part's words, and the place on top of the stack
@@ -27,7 +27,7 @@ below g =
     top_below (words g.args.part.now) g.args.outside g.loop-top.work g.loop-top.top g.get16-i.result (omega (arith, g.loop-top-test.true)) g.loop-top.invariant.2 g.get16-i.ensures
 
 -- what the turn made of the tables
-turn : (c : After-slice_known-in-loop-top-2-1)
+turn : (c : After-walk-top)
     → let ws = words c.args.part.now in
     Kept ws c.args.outside c.args.work.now c.walk-top.new.work
     × Turned (length ws) (Step ws c.args.work.now c.args.follow) (is_reached c.args.work.now) (is_reached c.loop-top.work) (is_pending ws c.loop-top.work)
@@ -52,12 +52,6 @@ overflow_add-outside c = omega (arith, room (goal.at.overflow_add-outside c).In-
 pub get16-i-requires : goal.get16-i-requires
 get16-i-requires c = omega (arith, room (goal.at.get16-i-requires c).In-loop-top)
 
-pub get16-s-requires : goal.get16-s-requires
-get16-s-requires c = omega (arith, room (goal.at.get16-s-requires c).In-loop-top, below (goal.at.get16-s-requires c).After-get16-i)
-
-pub put16-requires : goal.put16-requires
-put16-requires c = omega (arith, room (goal.at.put16-requires c).In-loop-top, below (goal.at.put16-requires c).After-get16-i)
-
 pub walk-top-requires : goal.walk-top-requires
 walk-top-requires c =
     let ws = words c.args.part.now in
@@ -74,10 +68,10 @@ walk-top-requires c =
     }
 
 pub loop-top-smaller : goal.loop-top-smaller
-loop-top-smaller c = (turn (goal.at.loop-top-smaller c).After-slice_known-in-loop-top-2-1).1.less
+loop-top-smaller c = (turn (goal.at.loop-top-smaller c).After-walk-top).1.less
 
 pub loop-top-preserved : goal.loop-top-preserved
-loop-top-preserved c = ((turn (goal.at.loop-top-preserved c).After-slice_known-in-loop-top-2-1).0, (turn (goal.at.loop-top-preserved c).After-slice_known-in-loop-top-2-1).1.next, c.walk-top.ensures.waiting_2)
+loop-top-preserved c = ((turn (goal.at.loop-top-preserved c).After-walk-top).0, (turn (goal.at.loop-top-preserved c).After-walk-top).1.next, c.walk-top.ensures.stacked)
 
 pub returns : goal.returns
 returns c =

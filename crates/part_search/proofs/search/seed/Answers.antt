@@ -8,4 +8,4 @@ enter-requires c = (c.requires.0.laid.roomy, node_below _ _ c.requires.1, c.requ
 
 pub returns : goal.returns
 returns c =
-    seeded _ _ _ _ _ _ _ _ _ c.requires.0 c.requires.1 c.requires.2 c.with-m.ensures c.enter.ensures.entered c.enter.ensures.waiting
+    seeded _ _ _ _ _ _ _ _ _ c.requires.0 c.requires.1 c.requires.2 c.with-m.ensures c.enter.ensures.entered c.enter.ensures.stacked
