@@ -126,7 +126,7 @@ fn other(base: usize) -> usize
     if base == FIRST { SECOND } else { FIRST }
 }
 
-// Rounds until the node at `root` has a number in state 0, or no number is new: that number, or 0.
+// Rounds until the node at `root` has a number in state 0, or no number is new: by how many links it arrives, if it does.
 fn rounds(
     whole: &[u8],
     a: Automaton,
@@ -134,7 +134,7 @@ fn rounds(
     out: &mut [u8],
     root: usize,
     height: usize,
-) -> u16
+) -> Option<u16>
     requires ready { Ready (words whole.now) a work.old out.old × (node_at (words whole.now) root ≡ true) × ((e : Expr) × Automates a e) }
     requires first_round { (y : ℕ) × ((e : Expr) → Automates a e → Round holds (runs_in (drop 1 (words whole.now))) (drop 1 (words whole.now)) e y 0 (distance (words whole.now) work.old)) }
     requires waiting { Waiting (words whole.now) work.old out.old first_base 1 height }
@@ -146,10 +146,13 @@ fn rounds(
     let mut from = FIRST;
     let mut count = height;
     let mut v: u16 = 1;
-    loop {
+    'rounds: loop {
         let r = get16(work, 0, 16 * root);
-        if (r != 0) | (count == 0) {
-            return r;
+        if r != 0 {
+            return Some(r - 1);
+        }
+        if count == 0 {
+            return None;
         }
         v += 1;
         let to = other(from);
@@ -158,7 +161,7 @@ fn rounds(
     }
 }
 
-// Measures the distances to the node at i, as far as the root needs them: the root's number in state 0, or 0.
+// Measures the distances to the node at i, as far as the root needs them: by how many links the root arrives there, if it does.
 pub fn measure(
     whole: &[u8],
     a: Automaton,
@@ -166,7 +169,7 @@ pub fn measure(
     out: &mut [u8],
     i: usize,
     root: usize,
-) -> u16
+) -> Option<u16>
     requires ready { Ready (words whole.now) a work.old out.old × Blank (words whole.now) work.old × ((e : Expr) × Automates a e) }
     requires nodes { (node_at (words whole.now) i ≡ true) × (node_at (words whole.now) root ≡ true) }
     ensures reached { (e : Expr) → Automates a e
