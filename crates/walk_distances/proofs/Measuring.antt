@@ -1,19 +1,19 @@
 -- Rounds one after another, from the first table on: they end, and tell the root's number. Assumes nothing.
 use mathlib.Core.Path.{◌≡◌, refl, sym, ap, subst, ◌∙◌}
 use mathlib.Core.Logic.{inl, inr, ⊎_elim}
-use mathlib.Core.Bool.{Bool, true, false, cond, not, ◌&&◌, ◌||◌}
+use mathlib.Core.Bool.{Bool, true, false, cond, not, ◌&&◌}
 use mathlib.Core.List.{List, []}
 use Prim.Native.Nat.{ℕ, zero, suc, ◌+◌, ◌-◌, ◌*◌, ◌≤◌, ◌<◌}
 use native.Mathlib.Nat.{pos_of_ne-zero}
 use native.Mathlib.Omega.{arith}
 use Rattle.std.specs.Prelude.{Some, None}
-use borrow.Author.Tests.{eq-eqb, ne_eqb, eqb-true}
+use borrow.Author.Tests.{eq-eqb, ne_eqb}
 use lib.Dec.{eqb}
 use lib.ListN.{length, drop, length-drop}
 use Rattle.sets.specs.States.{has_state}
 use Rattle.sets.specs.Table.{half, put_half}
 use Rattle.sets.specs.Tally.{one}
-use Rattle.sets.proofs.Cases.{clash, eq_or_ne, lt_or_le, not_elim, not_known, or_elim, or_right}
+use Rattle.sets.proofs.Cases.{eq_or_ne, lt_or_le, not_known}
 use Rattle.sets.proofs.Tests.{passed}
 use Rattle.files.specs.Part.{part_check}
 use Rattle.files.proofs.Parts.{whole_part}
@@ -86,10 +86,13 @@ module _ {ws : List ℕ} {a : Automaton} {w₀ w o₀ o : List ℕ} {from count 
       last = g.done;
       round = g.round y e h i;
       some = λ d s. cc;
-      none = λ s. (sym number_is ∙ z, λ x p d.
-          let (j, m, _, f) = distance_numbered ws part w x p g.done d in
-          let (k, l, _) = list_has g.waiting j m (subst (λ v. numbered w j v ≡ true) (sym g.is) f) in
-          omega (arith, l, c));
+      none = λ s. (
+        sym number_is ∙ z,
+        λ x p d.
+            let (j, m, _, f) = distance_numbered ws part w x p g.done d in
+            let (k, l, _) = list_has g.waiting j m (subst (λ v. numbered w j v ≡ true) (sym g.is) f) in
+            omega (arith, l, c),
+      );
     }
 
   -- no node has the next number

@@ -1,25 +1,13 @@
 -- `rounds::follow_back` meets its contract: no state is entered, or the row and the list of the edge's node have what is new. Assumes nothing.
 use native.Mathlib.Omega.{arith}
-use Rattle.walk_distances.proofs.Backward.{edge_room, back_none, back_small, back_room, back_some}
+use Rattle.walk_distances.proofs.Backward.{back_none, back_small, back_room, back_some}
 use Rattle.walk_distances.proofs.Noting.{list_room}
 use Rattle.walk_distances.proofs.rounds.follow_back.Goals as goal
-
-pub overflow_mul-x : goal.overflow_mul-x
-overflow_mul-x c = omega (arith, edge_room c.requires.ready.0 c.requires.edge.0)
-
-pub overflow_add-x : goal.overflow_add-x
-overflow_add-x c = omega (arith, edge_room c.requires.ready.0 c.requires.edge.0)
-
-pub get16-requires : goal.get16-requires
-get16-requires c = omega (arith, edge_room c.requires.ready.0 c.requires.edge.0)
 
 pub returns-then-g-eq0 : goal.returns-then-g-eq0
 returns-then-g-eq0 c =
     let h =
     back_none c.args.x c.args.f c.get16.result c.requires.ready.0 c.requires.ready.1 c.requires.ready.2 c.requires.ready.3 c.requires.edge.0 c.requires.edge.1 c.get16.ensures c.if-g-eq0.true in record { turns = h.0; written = h.1.0; waiting = h.1.1 }
-
-pub get16-j-requires : goal.get16-j-requires
-get16-j-requires c = omega (arith, edge_room c.requires.ready.0 c.requires.edge.0)
 
 pub spread-new-requires : goal.spread-new-requires
 spread-new-requires c = (

@@ -1,14 +1,7 @@
 -- `rounds::rounds` meets its contract. The invariant: the rounds up to v are done, and the list has the nodes with the number v. Assumes nothing.
 use native.Mathlib.Omega.{arith}
-use Rattle.walk_distances.proofs.Backward.{node_room}
 use Rattle.walk_distances.proofs.Measuring.{other_list, going_some, going_none, going_new, going_list, going_next}
 use Rattle.walk_distances.proofs.rounds.rounds.Goals as goal
-
-pub overflow_mul-root : goal.overflow_mul-root
-overflow_mul-root c = omega (arith, node_room c.rounds.invariant.ready c.requires.ready.1)
-
-pub get16-r-requires : goal.get16-r-requires
-get16-r-requires c = omega (arith, node_room c.rounds.invariant.ready c.requires.ready.1)
 
 pub returns-then-r-ne0 : goal.returns-then-r-ne0
 returns-then-r-ne0 c =
