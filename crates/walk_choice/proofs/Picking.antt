@@ -5,7 +5,9 @@ use mathlib.Core.Bool.{Bool, true, false, not, ◌&&◌, and-false}
 use mathlib.Core.List.{List, [], ◌∷◌, ◌++◌, append-nil, append_assoc}
 use Prim.Native.Nat.{ℕ, zero, suc, ◌+◌, ◌-◌, ◌*◌, ◌^◌, ◌≤◌, ◌<◌}
 use native.Mathlib.Numerals.{add-one}
+use native.Mathlib.Nat.{le_refl}
 use native.Mathlib.Omega.{arith}
+use Rattle.std.specs.Prelude.{Some, None}
 use lib.Bits.{bit_and}
 use borrow.Author.Tests.{lt-ltb}
 use lib.Dec.{eqb, ltb}
@@ -137,15 +139,18 @@ front_edge : (ws : List ℕ) (x : ℕ) → edge_at ws x ≡ true → front (drop
 unfolding edge_at
 front_edge ws x h = rw (drop-cons ws x 0 (edge_below ws x h), h)
 
-front_other : (ws : List ℕ) (x : ℕ) → edge_at ws x ≡ false → front (drop x ws) ≡ []
+pub front_end : (ws : List ℕ) (x : ℕ) → length ws ≤ x → front (drop x ws) ≡ []
+front_end ws x l = rw (drop_of_length-le ws l)
+
+pub front_other : (ws : List ℕ) (x : ℕ) → edge_at ws x ≡ false → front (drop x ws) ≡ []
 unfolding edge_at
-front_other ws x h = ⊎_elim (λ (l : x < length ws). rw (drop-cons ws x 0 l, h)) (λ (l : length ws ≤ x). rw (drop_of_length-le ws l)) (lt_or_le x (length ws))
+front_other ws x h = ⊎_elim (λ (l : x < length ws). rw (drop-cons ws x 0 l, h)) (λ l. front_end ws x l) (lt_or_le x (length ws))
 
 module _ {ws : List ℕ} {a : Automaton} {w : List ℕ} {u v i x : ℕ} (g : Passing ws a w u v i x) where
-  pub passing_last : edge_at ws x ≡ false → (e : Expr) → Automates a e → (s : ℕ) → Follows a.follow s u → FirstOpen ws w e (states_of s) v i 0
+  pub passing_last : front (drop x ws) ≡ [] → (e : Expr) → Automates a e → (s : ℕ) → Follows a.follow s u → FirstOpen ws w e (states_of s) v i None
   passing_last n e h s f = record {
-    none = λ z. g.same e h s f ∙ ap (filter (opening ws w e (states_of s) v)) (front_other ws x n);
-    some = λ l. absurd (omega arith);
+    none = λ z. g.same e h s f ∙ ap (filter (opening ws w e (states_of s) v)) n;
+    some = λ x z. cc;
   }
 
   module _ (b : edge_at ws x ≡ true) where
@@ -158,10 +163,10 @@ module _ {ws : List ℕ} {a : Automaton} {w : List ℕ} {u v i x : ℕ} (g : Pas
     }
 
     module _ {o : Bool} (q : (e : Expr) → Automates a e → (s : ℕ) → Follows a.follow s u → o ≡ opening ws w e (states_of s) v (get_or ws x 0)) where
-      pub passing_found : o ≡ true → (e : Expr) → Automates a e → (s : ℕ) → Follows a.follow s u → FirstOpen ws w e (states_of s) v i x
+      pub passing_found : o ≡ true → (e : Expr) → Automates a e → (s : ℕ) → Follows a.follow s u → FirstOpen ws w e (states_of s) v i (Some x)
       passing_found y e h s f = record {
-        none = λ z. absurd (omega (arith, g.after));
-        some = λ l. (filter (opening ws w e (states_of s) v) (front (drop (suc x) ws)), g.same e h s f ∙ rw (front_edge ws x b, ← q e h s f, y));
+        none = λ z. cc;
+        some = λ x' z. let same : x ≡ x' = cc in rw (← same) (filter (opening ws w e (states_of s) v) (front (drop (suc x) ws)), g.same e h s f ∙ rw (front_edge ws x b, ← q e h s f, y));
       }
 
       pub passing_more : o ≡ false → Passing ws a w u v i (x + 1)
@@ -176,18 +181,11 @@ module _ {ws : List ℕ} {a : Automaton} {w : List ℕ} {u v i x : ℕ} (g : Pas
 
 -- an edge word that was found
 pub record Found (ws : List ℕ) (a : Automaton) (w : List ℕ) (x : ℕ) : Type 0 where
-  pub positive : 0 < x
   pub below : x < length ws
   pub row : EdgeRow ws a w x
 
-pub found_edge : {ws : List ℕ} {a : Automaton} {w : List ℕ} {i x : ℕ} → Edged ws a w → (0 < x → Behind ws i x) → (x ≡ 0 → ⊥) → Found ws a w x
-found_edge {ws} {a} {w} {i} {x} edged behind n = go x behind n
-  where
-    go : (x : ℕ) → (0 < x → Behind ws i x) → (x ≡ 0 → ⊥) → Found ws a w x
-    go zero behind n = absurd (n refl)
-    go (suc x) behind n =
-        let b = behind (omega arith) in
-        record { positive = omega arith; below = b.below; row = edged (suc x) (b.edges (suc x) b.after (omega arith)) }
+pub found_edge : {ws : List ℕ} {a : Automaton} {w : List ℕ} {i x : ℕ} → Edged ws a w → Behind ws i x → Found ws a w x
+found_edge {x = x} edged b = record { below = b.below; row = edged x (b.edges x b.after (le_refl x)) }
 
 module _ (ws w : List ℕ) (e : Expr) where
   abbrev chooses : ℕ → ℕ → List ℕ → List ℕ
@@ -203,17 +201,17 @@ module _ (ws w : List ℕ) (e : Expr) where
   chooses_suc d x s = refl
 
   -- none opens
-  chosen_none : (left i : ℕ) (s : List ℕ) → FirstOpen ws w e s left i 0 → chooses left (number ws i) s ≡ []
+  chosen_none : (left i : ℕ) (s : List ℕ) → FirstOpen ws w e s left i None → chooses left (number ws i) s ≡ []
   chosen_none zero i s f = chooses_zero (number ws i) s
   chosen_none (suc d) i s f = chooses_suc d (number ws i) s ∙ ap (λ vs. first vs (λ v. chooses d (target_of v) (moved holds e s (label_of v)))) (f.none refl)
 
   -- the edge word at x is the first that opens
-  chosen_more : (left i : ℕ) (s : List ℕ) (x : ℕ) → 0 < left → 0 < x → FirstOpen ws w e s left i x → chooses left (number ws i) s
+  chosen_more : (left i : ℕ) (s : List ℕ) (x : ℕ) → 0 < left → FirstOpen ws w e s left i (Some x) → chooses left (number ws i) s
       ≡ get_or ws x 0 ∷ chooses (left - 1) (target_of (get_or ws x 0)) (moved holds e s (label_of (get_or ws x 0)))
-  chosen_more zero i s x l p f = absurd (omega arith)
-  chosen_more (suc d) i s x l p f =
+  chosen_more zero i s x l f = absurd (omega arith)
+  chosen_more (suc d) i s x l f =
       let z : suc d - 1 ≡ d = omega arith in
-      rw z (chooses_suc d (number ws i) s ∙ ap (λ vs. first vs (λ v. chooses d (target_of v) (moved holds e s (label_of v)))) (f.some p).1)
+      rw z (chooses_suc d (number ws i) s ∙ ap (λ vs. first vs (λ v. chooses d (target_of v) (moved holds e s (label_of v)))) (f.some x refl).1)
 
 -- what is written so far and what is still to be chosen, from the node at i with the states of s, are all that is to be chosen
 pub record Writing (ws w : List ℕ) (e : Expr) (root d : ℕ) (out₀ : List ℕ) (start : ℕ) (out : List ℕ) (n i s left : ℕ) : Type 0 where
@@ -249,16 +247,16 @@ module _ {ws : List ℕ} {a : Automaton} {w : List ℕ} {root d : ℕ} {out₀ :
   pub writing_last : left ≤ 0 → (e : Expr) → Automates a e → Writes walk_words (length out₀) out₀ start out n (chooses ws w e d (number ws root) (0 ∷ []))
   writing_last l e h = let z : left ≡ 0 = omega arith in all_of e h (rw z (chooses_zero ws w e (number ws i) (states_of s)))
 
-  module _ (u : ℕ) {x : ℕ} (f : Follows a.follow s u) (p : (e : Expr) → Automates a e → (s : ℕ) → Follows a.follow s u → FirstOpen ws w e (states_of s) left i x) where
-    pub writing_stop : x ≡ 0 → (e : Expr) → Automates a e → Writes walk_words (length out₀) out₀ start out n (chooses ws w e d (number ws root) (0 ∷ []))
-    writing_stop z e h = all_of e h (chosen_none ws w e left i (states_of s) (subst (FirstOpen ws w e (states_of s) left i) z (p e h s f)))
+  module _ (u : ℕ) (f : Follows a.follow s u) where
+    pub writing_stop : ((e : Expr) → Automates a e → (s : ℕ) → Follows a.follow s u → FirstOpen ws w e (states_of s) left i None) → (e : Expr) → Automates a e → Writes walk_words (length out₀) out₀ start out n (chooses ws w e d (number ws root) (0 ∷ []))
+    writing_stop p e h = all_of e h (chosen_none ws w e left i (states_of s) (p e h s f))
 
-    module _ (ok : whole_check ws ≡ 0) (there : Found ws a w x) where
+    module _ {x : ℕ} (p : (e : Expr) → Automates a e → (s : ℕ) → Follows a.follow s u → FirstOpen ws w e (states_of s) left i (Some x)) (ok : whole_check ws ≡ 0) (there : Found ws a w x) where
       -- the set of states moves as a whole
       pub states_move : (k : ℕ) → k ≡ mask_at w x → (e : Expr) → Automates a e → states_of (bit_and u k) ≡ moved holds e (states_of s) (label_of (get_or ws x 0))
       states_move k j e h =
           let test = opening ws w e (states_of s) left in
-          let (rest, q) = (p e h s f).some there.positive in
+          let (rest, q) = (p e h s f).some x refl in
           ap (λ k. states_of (bit_and u k)) j ∙ opens_moves ws a w x ok there.row u e h s f left
           (is_true (test (get_or ws x 0)) ((filter_iff test (get_or ws x 0) (edges (drop 1 ws) (number ws i))).0 (subst (Mem (get_or ws x 0)) (sym q) (here refl))).1)
 
@@ -271,7 +269,7 @@ module _ {ws : List ℕ} {a : Automaton} {w : List ℕ} {root d : ℕ} {out₀ :
             let v = get_or ws x 0 in
             record {
               links = r.links ++ v ∷ [];
-              whole = r.whole ∙ ap (r.links ++◌) (chosen_more ws w e left i (states_of s) x pos there.positive (p e h s f))
+              whole = r.whole ∙ ap (r.links ++◌) (chosen_more ws w e left i (states_of s) x pos (p e h s f))
                   ∙ sym (append_assoc r.links (v ∷ []) (chooses ws w e (left - 1) (target_of v) (moved holds e (states_of s) (label_of v))))
                   ∙ ap (λ y. (r.links ++ v ∷ []) ++ chooses ws w e (left - 1) y (moved holds e (states_of s) (label_of v))) (leads_to ws a w x ok there.row ∙ ap (number ws) (sym q))
                   ∙ ap (λ y. (r.links ++ v ∷ []) ++ chooses ws w e (left - 1) (number ws i') y) (sym (st e h));

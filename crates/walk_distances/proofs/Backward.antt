@@ -2,17 +2,17 @@
 use mathlib.Core.Path.{◌≡◌, sym, ap, subst, ◌∙◌}
 use mathlib.Core.Bool.{Bool, true, cond, not, ◌&&◌, ◌||◌}
 use mathlib.Core.List.{List}
-use Prim.Native.Nat.{ℕ, zero, suc, ◌+◌, ◌*◌, ◌≤◌, ◌<◌}
+use Prim.Native.Nat.{ℕ, zero, suc, ◌+◌, ◌*◌, ◌<◌}
 use native.Mathlib.Omega.{arith}
 use lib.Bits.{bit_and}
 use lib.Dec.{eqb, ltb}
-use lib.ListN.{length, get_or}
+use lib.ListN.{get_or}
 use Rattle.sets.specs.Sets.{any}
 use Rattle.sets.specs.States.{has_state, states_of}
 use Rattle.sets.specs.Table.{half, put_half}
 use Rattle.sets.proofs.Cases.{clash}
 use Rattle.sets.proofs.StateSets.{has_and}
-use Rattle.files.specs.Limits.{shown_words, walk_words, work_bytes}
+use Rattle.files.specs.Limits.{shown_words}
 use Rattle.files.specs.Part.{part_check}
 use Rattle.files.proofs.Parts.{whole_part}
 use Rattle.paths.specs.declared.automaton.Automaton.{Automaton}
@@ -25,15 +25,6 @@ use Rattle.walk_links.specs.Tables.{target_at, mask_at}
 use Rattle.walk_distances.specs.Rounds.{Turns, Waiting, IsList, Ready, Written}
 use Rattle.walk_distances.proofs.Handling.{owner_behind, edge_turns, edge_turns_none}
 use Rattle.walk_distances.proofs.Noting.{written_refl, list_room, note_room, note_written, note_waiting}
-
--- both tables have the places of an edge word and of a node word
-pub edge_room : {ws : List ℕ} {a : Automaton} {w o : List ℕ} {x : ℕ} → Ready ws a w o → edge_at ws x ≡ true
-    → (x < shown_words) × (work_bytes ≤ length w) × (4 * walk_words ≤ length o)
-edge_room {ws} {x = x} r e = (omega (arith, edge_below ws x e, r.measurable.few), r.measurable.works, r.measurable.holds)
-
-pub node_room : {ws : List ℕ} {a : Automaton} {w o : List ℕ} {i : ℕ} → Ready ws a w o → node_at ws i ≡ true
-    → (i < shown_words) × (work_bytes ≤ length w) × (4 * walk_words ≤ length o)
-node_room {ws} {i = i} r n = (omega (arith, node_below ws i n, r.measurable.few), r.measurable.works, r.measurable.holds)
 
 module _ {ws : List ℕ} {a : Automaton} {w o : List ℕ} {to top v : ℕ} (x f m : ℕ) (ready : Ready ws a w o) (list : IsList to) (s : Waiting ws w o to v top) (big : 1 < v)
     (edge : edge_at ws x ≡ true) (known : (p : ℕ) → has_state f p ≡ (ltb p 16 && eqb (suc (half w 0 (16 * target_at w x + p))) v)) (read : m ≡ mask_at w x) where

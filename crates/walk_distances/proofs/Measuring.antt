@@ -1,18 +1,19 @@
 -- Rounds one after another, from the first table on: they end, and tell the root's number. Assumes nothing.
 use mathlib.Core.Path.{◌≡◌, refl, sym, ap, subst, ◌∙◌}
 use mathlib.Core.Logic.{inl, inr, ⊎_elim}
-use mathlib.Core.Bool.{Bool, true, false, cond, not, ◌&&◌, ◌||◌}
+use mathlib.Core.Bool.{Bool, true, false, cond, not, ◌&&◌}
 use mathlib.Core.List.{List, []}
-use Prim.Native.Nat.{ℕ, zero, suc, ◌+◌, ◌*◌, ◌≤◌, ◌<◌}
+use Prim.Native.Nat.{ℕ, zero, suc, ◌+◌, ◌-◌, ◌*◌, ◌≤◌, ◌<◌}
 use native.Mathlib.Nat.{pos_of_ne-zero}
 use native.Mathlib.Omega.{arith}
-use borrow.Author.Tests.{eq-eqb, ne_eqb, eqb-true}
+use Rattle.std.specs.Prelude.{Some, None}
+use borrow.Author.Tests.{eq-eqb, ne_eqb}
 use lib.Dec.{eqb}
 use lib.ListN.{length, drop, length-drop}
 use Rattle.sets.specs.States.{has_state}
 use Rattle.sets.specs.Table.{half, put_half}
 use Rattle.sets.specs.Tally.{one}
-use Rattle.sets.proofs.Cases.{clash, eq_or_ne, lt_or_le, not_elim, not_known, or_elim, or_right}
+use Rattle.sets.proofs.Cases.{eq_or_ne, lt_or_le, not_known}
 use Rattle.sets.proofs.Tests.{passed}
 use Rattle.files.specs.Part.{part_check}
 use Rattle.files.proofs.Parts.{whole_part}
@@ -64,21 +65,35 @@ module _ {ws : List ℕ} {a : Automaton} {w₀ w o₀ o : List ℕ} {from count 
   abbrev part : part_check ws ≡ 0
   part = whole_part ws g.ready.measurable.accepted
 
-  -- the root's number, where it has one or none is new
-  pub going_last : (root : ℕ) {r : ℕ} → node_at ws root ≡ true → r ≡ half w 0 (16 * root) → (not (eqb r 0) || eqb count 0) ≡ true
-      → (y : ℕ) (e : Expr) → Automates a e → Round holds (runs_in (drop 1 ws)) (drop 1 ws) e y 0 (distance ws w₀) → Reached ws e y w (number ws root) r
-  going_last root {r} n q t y e h i = record {
-    last = g.done;
-    round = g.round y e h i;
-    number_is = q ∙ ap (half w 0) zero_more ∙ sym (distance_row ws part w root 0 n (omega arith));
-    ended = λ z x p d.
-        let (j, m, _, f) = distance_numbered ws part w x p g.done d in
-        let (k, l, _) = list_has g.waiting j m (subst (λ v. numbered w j v ≡ true) (sym g.is) f) in
-        ⊎_elim (λ c. clash (eq-eqb r 0 z) (not_elim (eqb r 0) c)) (λ c. omega (arith, eqb-true count 0 c)) (or_elim (not (eqb r 0)) (eqb count 0) t);
-  }
-    where
-      zero_more : 16 * root ≡ 16 * root + 0
-      zero_more = omega arith
+  module _ (root : ℕ) {r : ℕ} (n : node_at ws root ≡ true) (q : r ≡ half w 0 (16 * root)) where
+    number_is : r ≡ distance ws w (number ws root) 0
+    number_is = let zero_more : 16 * root ≡ 16 * root + 0 = omega arith in q ∙ ap (half w 0) zero_more ∙ sym (distance_row ws part w root 0 n (omega arith))
+
+    -- the root has a number
+    pub going_some : (r ≡ 0 → ⊥) → (y : ℕ) (e : Expr) → Automates a e → Round holds (runs_in (drop 1 ws)) (drop 1 ws) e y 0 (distance ws w₀)
+        → Reached ws e y w (number ws root) (Some (r - 1))
+    going_some z y e h i = record {
+      last = g.done;
+      round = g.round y e h i;
+      some = λ d s. let same : r - 1 ≡ d = cc in omega (arith, number_is, z);
+      none = λ s. cc;
+    }
+
+    -- none is new
+    pub going_none : r ≡ 0 → count ≡ 0 → (y : ℕ) (e : Expr) → Automates a e → Round holds (runs_in (drop 1 ws)) (drop 1 ws) e y 0 (distance ws w₀)
+        → Reached ws e y w (number ws root) None
+    going_none z c y e h i = record {
+      last = g.done;
+      round = g.round y e h i;
+      some = λ d s. cc;
+      none = λ s. (
+        sym number_is ∙ z,
+        λ x p d.
+            let (j, m, _, f) = distance_numbered ws part w x p g.done d in
+            let (k, l, _) = list_has g.waiting j m (subst (λ v. numbered w j v ≡ true) (sym g.is) f) in
+            omega (arith, l, c),
+      );
+    }
 
   -- no node has the next number
   pub going_new : ((e : Expr) × Automates a e)
@@ -93,12 +108,12 @@ module _ {ws : List ℕ} {a : Automaton} {w₀ w o₀ o : List ℕ} {from count 
 
   -- some node has v, and no number is more than the pairs of a node and a state are
   module _ (some : (e : Expr) × Automates a e) (start : (y : ℕ) × ((e : Expr) → Automates a e → Round holds (runs_in (drop 1 ws)) (drop 1 ws) e y 0 (distance ws w₀)))
-      (r : ℕ) (more : (not (eqb r 0) || eqb count 0) ≡ false) where
+      (more : count ≡ 0 → ⊥) where
     pub going_bound : v + 1 ≤ 16386
     going_bound =
         let (e, h) = some in
         let (y, i) = start in
-        let p : 0 < count = pos_of_ne-zero (λ z. clash (or_right (not (eqb r 0)) (eqb count 0) (eq-eqb count 0 z)) more) in
+        let p : 0 < count = pos_of_ne-zero more in
         let (q, d) = numbered_distance ws part w (half o from 0) v (list_node g.waiting 0 p) (list_numbered g.waiting 0 p) in
         let s = round_small holds (runs_in (drop 1 ws)) (drop 1 ws) e y h.small g.done (distance ws w) (g.round y e h (i e h)) (number ws (half o from 0)) q in
         omega (arith, d, s, nodes_length (drop 1 ws), length-drop 1 ws, g.ready.measurable.few)

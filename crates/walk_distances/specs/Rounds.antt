@@ -1,5 +1,5 @@
 -- Inner. A round over the positions of a whole's words, as the theory's `Turning`: which edges are handled, and the list of the nodes that got a number.
-use Rattle.std.specs.Prelude.{◌≡◌, ◌⊎◌, Bool, true, ◌&&◌, List, ℕ, suc, ◌+◌, ◌*◌, ◌≤◌, ◌<◌, length, get_or, drop}
+use Rattle.std.specs.Prelude.{◌≡◌, ◌⊎◌, Bool, true, ◌&&◌, List, ℕ, suc, ◌+◌, ◌*◌, ◌≤◌, ◌<◌, length, get_or, drop, Option, Some, None}
 use Rattle.sets.specs.Stack.{Stacked}
 use Rattle.sets.specs.Table.{half}
 use Rattle.expressions.specs.Expr.{Expr}
@@ -44,9 +44,9 @@ pub record Written (ws : List ℕ) (to v : ℕ) (w w' o o' : List ℕ) : Type 0 
   pub long : length w' ≡ length w
   pub long_out : length o' ≡ length o
 
--- rounds are done: r is the root's number in state 0, and where it has none, no number is of the last round
-pub record Reached (ws : List ℕ) (e : Expr) (y : ℕ) (w : List ℕ) (root r : ℕ) : Type 0 where
+-- rounds are done: r counts the links by which the root arrives in state 0, and where it does not arrive, no number is of the last round
+pub record Reached (ws : List ℕ) (e : Expr) (y : ℕ) (w : List ℕ) (root : ℕ) (r : Option ℕ) : Type 0 where
   pub last : ℕ
   pub round : Round holds (runs_in (drop 1 ws)) (drop 1 ws) e y last (distance ws w)
-  pub number_is : r ≡ distance ws w root 0
-  pub ended : r ≡ 0 → (x q : ℕ) → distance ws w x q ≡ suc last → ⊥
+  pub some : (d : ℕ) → r ≡ Some d → distance ws w root 0 ≡ suc d
+  pub none : r ≡ None → (distance ws w root 0 ≡ 0) × ((x q : ℕ) → distance ws w x q ≡ suc last → ⊥)

@@ -46,8 +46,8 @@ fn follow_back(
     v: u16,
 ) -> usize
     requires ready { Ready (words whole.now) a work.old out.old × IsList to × Waiting (words whole.now) work.old out.old to v top × (1 < v) }
-    requires x_value { (edge_at (words whole.now) x ≡ true) × ((p : ℕ) → has_state f p ≡ (ltb p 16 && eqb (suc (half work.old 0 (16 * target_at work.old x + p))) v)) }
-    ensures by_index { (done : ℕ → Bool) → Turns (words whole.now) a v work.old work.new done (λ z. done z || eqb z x) }
+    requires edge { (edge_at (words whole.now) x ≡ true) × ((p : ℕ) → has_state f p ≡ (ltb p 16 && eqb (suc (half work.old 0 (16 * target_at work.old x + p))) v)) }
+    ensures turns { (done : ℕ → Bool) → Turns (words whole.now) a v work.old work.new done (λ z. done z || eqb z x) }
     ensures written { Written (words whole.now) to v work.old work.new out.old out.new }
     ensures waiting { Waiting (words whole.now) work.new out.new to v result }
 {
@@ -74,8 +74,8 @@ fn visit(
     v: u16,
 ) -> usize
     requires ready { Ready (words whole.now) a work.old out.old × IsList to × Waiting (words whole.now) work.old out.old to v height × (1 < v) }
-    requires i_value { node_at (words whole.now) i ≡ true }
-    ensures by_index { (done : ℕ → Bool) → Turns (words whole.now) a v work.old work.new done
+    requires node { node_at (words whole.now) i ≡ true }
+    ensures turns { (done : ℕ → Bool) → Turns (words whole.now) a v work.old work.new done
         (λ z. done z || (edge_at (words whole.now) z && eqb (number (words whole.now) z) (number (words whole.now) i))) }
     ensures written { Written (words whole.now) to v work.old work.new out.old out.new }
     ensures waiting { Waiting (words whole.now) work.new out.new to v result }
@@ -103,8 +103,8 @@ fn round(
     v: u16,
 ) -> usize
     requires ready { Ready (words whole.now) a work.old out.old × IsList from × IsList to × (from ≡ to → ⊥) × (1 < v) }
-    requires by_index { (u : ℕ) → v ≡ suc u → Waiting (words whole.now) work.old out.old from u count }
-    requires by_index_2 { (j : ℕ) → node_at (words whole.now) j ≡ true → numbered work.old j v ≡ false }
+    requires listed { (u : ℕ) → v ≡ suc u → Waiting (words whole.now) work.old out.old from u count }
+    requires unnumbered { (j : ℕ) → node_at (words whole.now) j ≡ true → numbered work.old j v ≡ false }
     ensures turned { (e : Expr) → Automates a e → (y k : ℕ) → v ≡ suc (suc k)
         → Turned holds (runs_in (drop 1 (words whole.now))) (drop 1 (words whole.now)) e y k
         (distance (words whole.now) work.old) (distance (words whole.now) work.new) }
@@ -112,11 +112,9 @@ fn round(
     ensures waiting { Waiting (words whole.now) work.new out.new to v result }
 {
     let mut top = 0;
-    let mut k = 0;
-    while k < count {
+    for k in 0..count {
         let i = get16(out, from, k) as usize;
         top = visit(whole, a, work, out, to, top, i, v);
-        k += 1;
     }
     top
 }
@@ -128,7 +126,7 @@ fn other(base: usize) -> usize
     if base == FIRST { SECOND } else { FIRST }
 }
 
-// Rounds until the node at `root` has a number in state 0, or no number is new: that number, or 0.
+// Rounds until the node at `root` has a number in state 0, or no number is new: by how many links it arrives, if it does.
 fn rounds(
     whole: &[u8],
     a: Automaton,
@@ -136,11 +134,11 @@ fn rounds(
     out: &mut [u8],
     root: usize,
     height: usize,
-) -> u16
+) -> Option<u16>
     requires ready { Ready (words whole.now) a work.old out.old × (node_at (words whole.now) root ≡ true) × ((e : Expr) × Automates a e) }
-    requires by_index { (y : ℕ) × ((e : Expr) → Automates a e → Round holds (runs_in (drop 1 (words whole.now))) (drop 1 (words whole.now)) e y 0 (distance (words whole.now) work.old)) }
+    requires first_round { (y : ℕ) × ((e : Expr) → Automates a e → Round holds (runs_in (drop 1 (words whole.now))) (drop 1 (words whole.now)) e y 0 (distance (words whole.now) work.old)) }
     requires waiting { Waiting (words whole.now) work.old out.old first_base 1 height }
-    ensures by_index_2 { (y : ℕ) (e : Expr) → Automates a e
+    ensures reached { (y : ℕ) (e : Expr) → Automates a e
         → Round holds (runs_in (drop 1 (words whole.now))) (drop 1 (words whole.now)) e y 0 (distance (words whole.now) work.old)
         → Reached (words whole.now) e y work.new (number (words whole.now) root) result }
     ensures edged { Edged (words whole.now) a work.new }
@@ -148,10 +146,13 @@ fn rounds(
     let mut from = FIRST;
     let mut count = height;
     let mut v: u16 = 1;
-    loop {
+    'rounds: loop {
         let r = get16(work, 0, 16 * root);
-        if (r != 0) | (count == 0) {
-            return r;
+        if r != 0 {
+            return Some(r - 1);
+        }
+        if count == 0 {
+            return None;
         }
         v += 1;
         let to = other(from);
@@ -160,7 +161,7 @@ fn rounds(
     }
 }
 
-// Measures the distances to the node at i, as far as the root needs them: the root's number in state 0, or 0.
+// Measures the distances to the node at i, as far as the root needs them: by how many links the root arrives there, if it does.
 pub fn measure(
     whole: &[u8],
     a: Automaton,
@@ -168,9 +169,9 @@ pub fn measure(
     out: &mut [u8],
     i: usize,
     root: usize,
-) -> u16
+) -> Option<u16>
     requires ready { Ready (words whole.now) a work.old out.old × Blank (words whole.now) work.old × ((e : Expr) × Automates a e) }
-    requires i_value { (node_at (words whole.now) i ≡ true) × (node_at (words whole.now) root ≡ true) }
+    requires nodes { (node_at (words whole.now) i ≡ true) × (node_at (words whole.now) root ≡ true) }
     ensures reached { (e : Expr) → Automates a e
         → Reached (words whole.now) e (number (words whole.now) i) work.new (number (words whole.now) root) result }
     ensures edged { Edged (words whole.now) a work.new }

@@ -60,10 +60,7 @@ pub fn link(whole: &[u8], a: Automaton, work: &mut [u8], out: &mut [u8])
     clear(work);
     clear(out);
     own(whole, out);
-    let n = whole.len() / 4;
-    let mut x = 0;
-    while x < n {
+    for x in 0..whole.len() / 4 {
         link_at(whole, a, work, out, x);
-        x += 1;
     }
 }

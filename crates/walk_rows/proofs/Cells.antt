@@ -1,12 +1,13 @@
 -- The laws of a row of sixteen numbers: what a loop over its states reads and writes, and whether it has a number. Assumes nothing.
 use mathlib.Core.Path.{◌≡◌, refl, sym, ap, subst, ◌∙◌}
 use mathlib.Core.Logic.{◌↔◌, ◌⊎◌, inl, inr, ⊎_elim}
-use mathlib.Core.Bool.{Bool, true, false, cond, not, ◌&&◌, ◌||◌, and-false, and-true, or-true, or-false}
+use mathlib.Core.Bool.{Bool, true, false, cond, not, ◌&&◌, ◌||◌, and-false, or-true, or-false}
 use mathlib.Core.List.{List}
 use Prim.Native.Nat.{ℕ, ◌+◌, ◌-◌, ◌*◌, ◌^◌, ◌≤◌, ◌<◌}
 use native.Mathlib.Nat.{pos_of_ne-zero}
 use native.Mathlib.Omega.{arith}
-use borrow.Author.Tests.{eq-eqb, eqb-true, lt-ltb, le-ltb}
+use borrow.Author.Tests.{eq-eqb, eqb-true}
+use Rattle.std.proofs.lemmas.Grind.{common_steps}
 use lib.Bits.{bit_and, and_le_r}
 use lib.Count.{count_trailing_zeros}
 use lib.Dec.{T, eqb, ltb}
@@ -15,7 +16,7 @@ use Rattle.sets.specs.Sets.{any}
 use Rattle.sets.specs.States.{has_state, members, states_of}
 use Rattle.sets.specs.Table.{half, put_half}
 use Rattle.sets.proofs.Tests.{either, is_true, passed, same_test, or_iff, eq_iff, not_iff}
-use Rattle.sets.proofs.Cases.{clash, and_left, and_right, and_intro, by_eq, eq_or_ne, lt_or_le, or_swap}
+use Rattle.sets.proofs.Cases.{clash, and_left, and_right, and_intro, eq_or_ne, lt_or_le, or_swap}
 use Rattle.sets.proofs.Filter.{any_iff}
 use Rattle.sets.proofs.Members.{members_in, in_members}
 use Rattle.sets.proofs.StateSets.{has_and, has_empty, lowest_is}
@@ -43,36 +44,10 @@ meets a b small = same_test down up
         let g : has_state (bit_and a b) q ≡ true = has_and a b q ∙ and_intro _ _ (in_members (has_state a) 0 16 q i).2 (is_true (has_state b q) j) in
         (not_iff (eqb (bit_and a b) 0)).1 (λ z. clash (ap (λ r. has_state r q) (sym ((eq_iff (bit_and a b) 0).0 z)) ∙ g) (has_empty q))
 
-pub with_true : (s r q : ℕ) {b : Bool} → b ≡ true → ((p : ℕ) → has_state r p ≡ (has_state s p || eqb p q))
-    → (p : ℕ) → has_state r p ≡ (has_state s p || (eqb p q && b))
-with_true s r q e h p = h p ∙ rw (e, and-true)
-
-pub with_false : (s q : ℕ) {b : Bool} → b ≡ false → (p : ℕ) → has_state s p ≡ (has_state s p || (eqb p q && b))
-with_false s q e p = rw (e, and-false, or-false)
-
--- r has the states below q that pass a test
-pub record Gathering (test : ℕ → Bool) (q r : ℕ) : Type 0 where
-  pub has : (p : ℕ) → has_state r p ≡ (ltb p q && test p)
-  pub most : q ≤ 16
-
-pub gather_none : (test : ℕ → Bool) → Gathering test 0 0
-gather_none test = record { has = λ p. rw (has_empty p, le-ltb p 0 (omega arith)); most = omega arith }
-
-module _ {test : ℕ → Bool} {q r : ℕ} (f : Gathering test q r) where
-  pub gather_more : (r' : ℕ) {b : Bool} → q < 16 → b ≡ test q → ((p : ℕ) → has_state r' p ≡ (has_state r p || (eqb p q && b))) → Gathering test (q + 1) r'
-  gather_more r' {b} l e h = record {
-    has = λ p. h p ∙ by_eq q (λ p t. (has_state r p || (t && b)) ≡ (ltb p (q + 1) && test p))
-        (rw (f.has q, le-ltb q q (omega arith), lt-ltb q (q + 1) (omega arith), e))
-        (λ p n. rw (or-false, f.has p, step p n)) p;
-    most = omega arith;
-  }
-    where
-      step : (p : ℕ) → (p ≡ q → ⊥) → ltb p (q + 1) ≡ ltb p q
-      step p n = ⊎_elim (λ (k : p < q). lt-ltb p (q + 1) (omega arith) ∙ sym (lt-ltb p q k))
-          (λ (k : q ≤ p). le-ltb p (q + 1) (omega (arith, n)) ∙ sym (le-ltb p q k)) (lt_or_le p q)
-
-  pub gather_all : 16 ≤ q → (p : ℕ) → has_state r p ≡ (ltb p 16 && test p)
-  gather_all l p = let e : q ≡ 16 = omega (arith, f.most) in f.has p ∙ ap (λ q. ltb p q && test p) e
+-- r has the states below q that pass a test; r' has q too, where it passes
+pub gather_more : (test : ℕ → Bool) (q r r' : ℕ) {b : Bool} → ((p : ℕ) → has_state r p ≡ (ltb p q && test p)) → b ≡ test q
+    → ((p : ℕ) → has_state r' p ≡ (has_state r p || (eqb p q && b))) → (p : ℕ) → has_state r' p ≡ (ltb p (q + 1) && test p)
+gather_more test q r r' f e h p = grind (arith, common_steps)
 
 -- ---- some state below n passes a test
 
@@ -126,7 +101,6 @@ put_length w at v false = refl
 -- the states below q were hit; `old` tells whether one of them had the number v, and `new` whether one got it
 pub record Spreading (hits : ℕ → Bool) (i v q : ℕ) (w₀ w : List ℕ) (old new : Bool) : Type 0 where
   pub hit : Hit hits i q v w₀ w
-  pub most : q ≤ 16
   pub was : old ≡ some (is w₀ i v) q
   pub now : (old || new) ≡ some (is w i v) q
 
@@ -134,7 +108,6 @@ pub spread_none : (hits : ℕ → Bool) (i v : ℕ) (w : List ℕ) → Spreading
 unfolding members
 spread_none hits i v w = record {
   hit = record { row = λ p l. absurd (omega arith); rest = λ m o. refl; same = refl };
-  most = omega arith;
   was = refl;
   now = refl;
 }
@@ -168,20 +141,15 @@ module _ {hits : ℕ → Bool} {i v q : ℕ} {w₀ w : List ℕ} {old new : Bool
     pub spread_more : Spreading hits i v (q + 1) w₀ w' (old || eqb n v) (new || h)
     spread_more = record {
       hit = spread_hit;
-      most = omega arith;
       was = rw (some_more (is w₀ i v) q, ← f.was, ← before);
       now =
           or_swap old (eqb n v) new h
           ∙ rw (f.now, some_more (is w' i v) q, here, got h, some_agree (is w' i v) (is w i v) q (λ p k. ap (λ x. eqb x v) (other (16 * i + p) (λ z. omega arith))));
     }
 
-  pub spread_hits : 16 ≤ q → Hit hits i 16 v w₀ w
-  spread_hits l = let e : q ≡ 16 = omega (arith, f.most) in subst (λ q. Hit hits i q v w₀ w) e f.hit
-
-  pub spread_tells : 16 ≤ q → (new && not old) ≡ (numbered w i v && not (numbered w₀ i v))
+  pub spread_tells : q ≡ 16 → (new && not old) ≡ (numbered w i v && not (numbered w₀ i v))
   unfolding numbered
-  spread_tells l =
-      let e : q ≡ 16 = omega (arith, f.most) in
+  spread_tells e =
       left old new ∙ rw (f.now, f.was, e)
     where
       left : (a b : Bool) → (b && not a) ≡ ((a || b) && not a)

@@ -21,30 +21,28 @@ fn with_if(s: u16, q: u32, b: bool) -> u16
 }
 
 // The states of a row that have the number v.
+#[tactic(auto, using(sets::proofs::StateSets::has_empty))]
 pub fn having(work: &[u8], i: usize, v: u16) -> u16
     requires { (i < shown_words) × (work_bytes ≤ length work.now) }
     ensures { (p : ℕ) → has_state result p ≡ (ltb p 16 && eqb (half work.now 0 (16 * i + p)) v) }
 {
     let mut r: u16 = 0;
-    let mut q: u32 = 0;
-    while q < 16 {
+    for q in 0..16 {
         let at = 16 * i + q as usize;
         r = with_if(r, q, get16(work, 0, at) == v);
-        q += 1;
     }
     r
 }
 
 // The states that may be followed by one of f.
+#[tactic(auto, using(sets::proofs::StateSets::has_empty))]
 pub fn preceding(follow: [u16; 16], f: u16) -> u16
     ensures { (p : ℕ) → has_state result p ≡ (ltb p 16 && any (has_state f) (states_of (get_or follow p 0))) }
 {
     let mut r: u16 = 0;
-    let mut q: u32 = 0;
-    while q < 16 {
+    for q in 0..16 {
         let next = follow[q as usize];
         r = with_if(r, q, next & f != 0);
-        q += 1;
     }
     r
 }
@@ -63,19 +61,17 @@ fn hit(work: &mut [u8], at: usize, hits: bool, v: u16)
 pub fn spread(work: &mut [u8], i: usize, set: u16, v: u16) -> bool
     requires { (i < shown_words) × (work_bytes ≤ length work.old) × (0 < v) }
     ensures hit { Hit (has_state set) i 16 v work.old work.new }
-    ensures value { result ≡ (numbered work.new i v && not (numbered work.old i v)) }
+    ensures tells { result ≡ (numbered work.new i v && not (numbered work.old i v)) }
 {
     let mut old = false;
     let mut new = false;
-    let mut q: u32 = 0;
-    while q < 16 {
+    for q in 0..16 {
         let at = 16 * i + q as usize;
         let n = get16(work, 0, at);
         let hits = has(set, q) & (n == 0);
         hit(work, at, hits, v);
         old = old | (n == v);
         new = new | hits;
-        q += 1;
     }
     new & !old
 }

@@ -1,12 +1,7 @@
--- `walk_choice::choosing::first_open` meets its contract. Assumes nothing.
-use Prim.Native.Nat.{◌-◌}
-use lib.ListN.{length}
+-- `walk_choice::choosing::first_open` meets its contract. The invariant: the edge words before x do not open. Assumes nothing.
 use Rattle.files.specs.Word.{words}
 use Rattle.walk_choice.proofs.Picking.{Passing}
 use Rattle.walk_choice.proofs.choosing.first_open.Given as goal
 
-abbrev pub invariant-loop-a : goal.invariant-loop-a
-invariant-loop-a l = Passing (words l.whole) l.a l.work l.u l.v l.i l.x
-
-abbrev pub decreases-loop-a : goal.decreases-loop-a
-decreases-loop-a l = length (words l.whole) - l.x
+abbrev pub invariant-loop-x : goal.invariant-loop-x
+invariant-loop-x l = Passing (words l.whole) l.a l.work l.u l.v l.i l.x

@@ -5,6 +5,3 @@ use Rattle.walk_choice.proofs.choosing.write_links.Given as goal
 
 abbrev pub invariant-loop-left : goal.invariant-loop-left
 invariant-loop-left l = Writings (words l.whole) l.a l.work l.root l.d l.initial.out l.start l.out l.n l.i l.s l.left
-
-abbrev pub decreases-loop-left : goal.decreases-loop-left
-decreases-loop-left l = l.left

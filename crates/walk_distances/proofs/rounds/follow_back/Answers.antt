@@ -1,32 +1,17 @@
 -- `rounds::follow_back` meets its contract: no state is entered, or the row and the list of the edge's node have what is new. Assumes nothing.
 use native.Mathlib.Omega.{arith}
-use Rattle.walk_distances.proofs.Backward.{edge_room, back_none, back_small, back_room, back_some}
+use Rattle.walk_distances.proofs.Backward.{back_none, back_small, back_room, back_some}
 use Rattle.walk_distances.proofs.Noting.{list_room}
 use Rattle.walk_distances.proofs.rounds.follow_back.Goals as goal
-
-pub overflow_mul-x : goal.overflow_mul-x
-overflow_mul-x c = omega (arith, edge_room c.requires.ready.0 c.requires.x_value.0)
-
-pub overflow_add-x : goal.overflow_add-x
-overflow_add-x c = omega (arith, edge_room c.requires.ready.0 c.requires.x_value.0)
-
-pub get16-requires : goal.get16-requires
-get16-requires c = omega (arith, edge_room c.requires.ready.0 c.requires.x_value.0)
 
 pub returns-then-g-eq0 : goal.returns-then-g-eq0
 returns-then-g-eq0 c =
     let h =
-    back_none c.args.x c.args.f c.get16.result c.requires.ready.0 c.requires.ready.1 c.requires.ready.2 c.requires.ready.3 c.requires.x_value.0 c.requires.x_value.1 c.get16.ensures c.if-g-eq0.true in record { by_index = h.0; written = h.1.0; waiting = h.1.1 }
-
-pub get16-j-requires : goal.get16-j-requires
-get16-j-requires c = omega (arith, edge_room c.requires.ready.0 c.requires.x_value.0)
-
-pub preceding-set-requires : goal.preceding-set-requires
-preceding-set-requires c = tt
+    back_none c.args.x c.args.f c.get16.result c.requires.ready.0 c.requires.ready.1 c.requires.ready.2 c.requires.ready.3 c.requires.edge.0 c.requires.edge.1 c.get16.ensures c.if-g-eq0.true in record { turns = h.0; written = h.1.0; waiting = h.1.1 }
 
 pub spread-new-requires : goal.spread-new-requires
 spread-new-requires c = (
-  back_small c.args.x c.args.f c.get16.result c.requires.ready.0 c.requires.ready.1 c.requires.ready.2 c.requires.ready.3 c.requires.x_value.0 c.requires.x_value.1 c.get16.ensures
+  back_small c.args.x c.args.f c.get16.result c.requires.ready.0 c.requires.ready.1 c.requires.ready.2 c.requires.ready.3 c.requires.edge.0 c.requires.edge.1 c.get16.ensures
       c.get16-j.ensures,
   c.requires.ready.0.measurable.works,
   omega (arith, c.requires.ready.3),
@@ -35,14 +20,14 @@ spread-new-requires c = (
 pub note-requires : goal.note-requires
 note-requires c = (
   list_room c.requires.ready.1 c.requires.ready.0.measurable,
-  back_small c.args.x c.args.f c.get16.result c.requires.ready.0 c.requires.ready.1 c.requires.ready.2 c.requires.ready.3 c.requires.x_value.0 c.requires.x_value.1 c.get16.ensures
+  back_small c.args.x c.args.f c.get16.result c.requires.ready.0 c.requires.ready.1 c.requires.ready.2 c.requires.ready.3 c.requires.edge.0 c.requires.edge.1 c.get16.ensures
       c.get16-j.ensures,
-  back_room c.args.x c.args.f c.get16.result c.requires.ready.0 c.requires.ready.1 c.requires.ready.2 c.requires.ready.3 c.requires.x_value.0 c.requires.x_value.1 c.get16.ensures
-      c.get16-j.ensures c.preceding-set.result c.preceding-set.ensures c.spread-new.ensures.hit c.spread-new.ensures.value,
+  back_room c.args.x c.args.f c.get16.result c.requires.ready.0 c.requires.ready.1 c.requires.ready.2 c.requires.ready.3 c.requires.edge.0 c.requires.edge.1 c.get16.ensures
+      c.get16-j.ensures c.preceding-set.result c.preceding-set.ensures c.spread-new.ensures.hit c.spread-new.ensures.tells,
 )
 
 pub returns : goal.returns
 returns c =
     let h =
-    back_some c.args.x c.args.f c.get16.result c.requires.ready.0 c.requires.ready.1 c.requires.ready.2 c.requires.ready.3 c.requires.x_value.0 c.requires.x_value.1 c.get16.ensures
-    c.get16-j.ensures c.preceding-set.result c.preceding-set.ensures c.spread-new.ensures.hit c.spread-new.ensures.value c.note.ensures.0 c.note.ensures.1 in record { by_index = h.0; written = h.1.0; waiting = h.1.1 }
+    back_some c.args.x c.args.f c.get16.result c.requires.ready.0 c.requires.ready.1 c.requires.ready.2 c.requires.ready.3 c.requires.edge.0 c.requires.edge.1 c.get16.ensures
+    c.get16-j.ensures c.preceding-set.result c.preceding-set.ensures c.spread-new.ensures.hit c.spread-new.ensures.tells c.note.ensures.0 c.note.ensures.1 in record { turns = h.0; written = h.1.0; waiting = h.1.1 }

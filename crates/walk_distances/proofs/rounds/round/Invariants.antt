@@ -1,11 +1,7 @@
 -- `rounds::round` meets its contract. The invariant: the first k nodes of the list that is read are visited. Assumes nothing.
-use Prim.Native.Nat.{◌-◌}
 use Rattle.files.specs.Word.{words}
 use Rattle.walk_distances.proofs.Passing.{Rounding}
 use Rattle.walk_distances.proofs.rounds.round.Given as goal
 
 abbrev pub invariant-loop-k : goal.invariant-loop-k
 invariant-loop-k l = Rounding (words l.whole) l.a l.from l.to l.v l.initial.work l.work l.initial.out l.out l.top l.k
-
-abbrev pub decreases-loop-k : goal.decreases-loop-k
-decreases-loop-k l = l.count - l.k

@@ -4,8 +4,8 @@ use Rattle.files.specs.Word.{words}
 use Rattle.walk_distances.proofs.Measuring.{Going}
 use Rattle.walk_distances.proofs.rounds.rounds.Given as goal
 
-abbrev pub invariant-loop-count : goal.invariant-loop-count
-invariant-loop-count l = Going (words l.whole) l.a l.initial.work l.work l.initial.out l.out l.from l.count l.v
+abbrev pub invariant-rounds : goal.invariant-rounds
+invariant-rounds l = Going (words l.whole) l.a l.initial.work l.work l.initial.out l.out l.from l.count l.v
 
-abbrev pub decreases-loop-count : goal.decreases-loop-count
-decreases-loop-count l = 16387 - l.v
+abbrev pub decreases-rounds : goal.decreases-rounds
+decreases-rounds l = 16387 - l.v

@@ -5,8 +5,3 @@ use Rattle.walk_links.proofs.links.entry_mask.Goals as goal
 
 pub returns-then-is_stopped : goal.returns-then-is_stopped
 returns-then-is_stopped c p = let stops = sym c.is_stopped.ensures ∙ c.if-is_stopped.true in rw stops (has_empty p)
-
-pub returns : goal.returns
-returns c p =
-    let runs = sym c.is_stopped.ensures ∙ c.if-is_stopped.false in
-    rw (runs, ← c.word_at.ensures, ← c.label.ensures) (c.mask.ensures p)

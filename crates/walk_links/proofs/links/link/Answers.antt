@@ -1,5 +1,5 @@
 -- `links::link` meets its contract. The invariant: the edge words before x have their rows. Assumes nothing.
-use mathlib.Core.Path.{◌≡◌, refl, ◌∙◌}
+use mathlib.Core.Path.{◌≡◌}
 use native.Mathlib.Omega.{arith}
 use lib.ListN.{length}
 use Rattle.files.specs.Word.{words}
@@ -16,8 +16,8 @@ measurable h =
     record {
       accepted = h.requires.accepted;
       few = h.requires.few;
-      works = omega (arith, h.requires.works, h.loop-x.invariant.2, h.clear.auto.buf);
-      holds = omega (arith, h.requires.holds, h.loop-x.invariant.3, h.own.auto.work, h.clear-2.auto.buf);
+      works = omega (arith, h.requires.works, h.loop-x.auto.work, h.clear.auto.buf);
+      holds = omega (arith, h.requires.holds, h.loop-x.auto.out, h.own.auto.work, h.clear-2.auto.buf);
     }
 
 pub own-requires : goal.own-requires
@@ -29,24 +29,15 @@ own-requires c = (
 
 -- no edge word has a row
 pub loop-x-init : goal.loop-x-init
-loop-x-init c = (
-  linking_none (words c.args.whole.now) c.args.a (length c.args.work.now) (length c.args.out.now) c.clear.new.buf c.clear-2.new.buf
-      c.own.new.work c.requires.few c.clear.ensures c.clear-2.ensures c.own.ensures.owned c.own.ensures.owners_only,
-  omega arith,
-  refl,
-  refl,
-)
+loop-x-init c =
+    linking_none (words c.args.whole.now) c.args.a (length c.args.work.now) (length c.args.out.now) c.clear.new.buf c.clear-2.new.buf
+    c.own.new.work c.requires.few c.clear.ensures c.clear-2.ensures c.own.ensures.owned c.own.ensures.owners_only
 
 pub link_at-requires : goal.link_at-requires
 link_at-requires c =
-    (measurable (goal.at.link_at-requires c).At-loop-x, c.loop-x.invariant.0, omega (arith, words_length c.args.whole.now, c.loop-x-test.true))
-
-pub loop-x-preserved : goal.loop-x-preserved
-loop-x-preserved c =
-    (c.link_at.ensures, omega (arith, c.loop-x-test.true), c.link_at.auto.work ∙ c.loop-x.invariant.2, c.link_at.auto.out ∙ c.loop-x.invariant.3)
+    (measurable (goal.at.link_at-requires c).At-loop-x, c.loop-x.invariant, omega (arith, words_length c.args.whole.now, c.loop-x-test.true))
 
 pub returns : goal.returns
 returns c =
-    let e : c.loop-x.x ≡ length (words c.args.whole.now) = omega (arith, words_length c.args.whole.now, c.loop-x-test.false, c.loop-x.invariant.1) in
-    let l = c.loop-x.invariant.0 in
-    (linked_rows l e, linked_heads l e, l.blank)
+    let e : c.loop-x.x ≡ length (words c.args.whole.now) = omega (arith, words_length c.args.whole.now, c.loop-x-test.false) in
+    (linked_rows c.loop-x.invariant e, linked_heads c.loop-x.invariant e, c.loop-x.invariant.blank)

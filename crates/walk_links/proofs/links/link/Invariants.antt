@@ -1,13 +1,7 @@
 -- `links::link` meets its contract. The invariant: the edge words before x have their rows. Assumes nothing.
-use mathlib.Core.Path.{◌≡◌}
-use Prim.Native.Nat.{◌≤◌, ◌-◌}
-use lib.ListN.{length}
 use Rattle.files.specs.Word.{words}
 use Rattle.walk_links.specs.Tables.{Linking}
 use Rattle.walk_links.proofs.links.link.Given as goal
 
 abbrev pub invariant-loop-x : goal.invariant-loop-x
-invariant-loop-x l = Linking (words l.whole) l.a l.work l.out l.x × (l.x ≤ l.n) × (length l.work ≡ length l.initial.work) × (length l.out ≡ length l.initial.out)
-
-abbrev pub decreases-loop-x : goal.decreases-loop-x
-decreases-loop-x l = l.n - l.x
+invariant-loop-x l = Linking (words l.whole) l.a l.work l.out l.x

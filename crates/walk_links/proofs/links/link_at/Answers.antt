@@ -3,10 +3,6 @@ use mathlib.Core.Path.{sym, ◌∙◌}
 use Rattle.walk_links.proofs.Linking.{linking_other}
 use Rattle.walk_links.proofs.links.link_at.Goals as goal
 
-pub link_edge-requires : goal.link_edge-requires
-link_edge-requires c =
-    (c.requires.0, c.requires.1, sym c.is_edge.ensures ∙ c.if-is_edge.true)
-
 pub returns-else-is_edge : goal.returns-else-is_edge
 returns-else-is_edge c =
     linking_other c.requires.1 (sym c.is_edge.ensures ∙ c.if-is_edge.false)

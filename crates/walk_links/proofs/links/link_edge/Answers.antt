@@ -6,7 +6,6 @@ use native.Mathlib.Omega.{arith}
 use lib.ListN.{length}
 use Rattle.files.specs.Word.{words}
 use Rattle.files.specs.Limits.{shown_words, walk_words, work_bytes}
-use Rattle.files.proofs.Parts.{whole_part}
 use Rattle.slots.specs.Slots.{node_at, number}
 use Rattle.slots.proofs.Places.{edge_below, node_below}
 use Rattle.walk_links.proofs.Linking.{target_found, linking_edge}
@@ -29,9 +28,6 @@ room f =
       f.requires.0.works,
       f.requires.0.holds,
     )
-
-pub node_position-t-requires : goal.node_position-t-requires
-node_position-t-requires c = (whole_part (words c.args.whole.now) c.requires.0.accepted, omega (arith, c.requires.0.few, c.requires.0.holds), c.requires.1.owned)
 
 pub get16-last-requires : goal.get16-last-requires
 get16-last-requires c = omega (arith, room (goal.at.get16-last-requires c).After-node_position-t)

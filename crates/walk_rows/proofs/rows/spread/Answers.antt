@@ -1,7 +1,6 @@
 -- `rows::spread` meets its contract. The invariant: the states below q were hit. Assumes nothing.
-use Prim.Native.Nat.{◌≤◌}
 use native.Mathlib.Omega.{arith}
-use Rattle.walk_rows.proofs.Cells.{spread_none, spread_more, spread_hits, spread_tells}
+use Rattle.walk_rows.proofs.Cells.{spread_none, spread_more, spread_tells}
 use Rattle.walk_rows.proofs.rows.spread.Goals as goal
 
 pub loop-q-init : goal.loop-q-init
@@ -13,5 +12,5 @@ loop-q-preserved c =
     spread_more c.loop-q.invariant c.hit.new.work c.requires.0 (omega (arith, c.loop-q.invariant.hit.same, c.requires.1)) c.loop-q-test.true c.get16-n.ensures
     (rw c.has.ensures) c.hit.ensures
 
-pub returns : goal.returns
-returns c = let l : 16 ≤ c.loop-q.q = omega (arith, c.loop-q-test.false) in record { hit = spread_hits c.loop-q.invariant l; value = spread_tells c.loop-q.invariant l }
+pub returns-clause-tells : goal.returns-clause-tells
+returns-clause-tells c = spread_tells c.loop-q.invariant (omega (arith, c.loop-q-test.false))
