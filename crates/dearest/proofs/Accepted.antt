@@ -1,17 +1,13 @@
 -- The counts that are not refused with 21, and how many words the dearest part and path have. Assumes nothing.
-use mathlib.Core.Path.{◌≡◌, refl, sym, ap, ◌∙◌}
-use mathlib.Core.Bool.{Bool, ◌&&◌, and_assoc}
+use mathlib.Core.Path.{◌≡◌, refl}
 use mathlib.Core.Logic.{◌↔◌}
 use mathlib.Core.List.{List, [], ◌∷◌, map, flatten}
-use Prim.Native.Nat.{ℕ, zero, suc, ◌+◌, ◌-◌, ◌*◌, ◌^◌, ◌≤◌, ◌<◌}
+use Prim.Native.Nat.{ℕ, zero, suc, ◌+◌, ◌-◌, ◌*◌, ◌≤◌}
 use native.Mathlib.Omega.{arith}
-use native.Mathlib.Nat.{le_trans, mul-le-mul_left, mul-le-mul_right}
-use lib.Dec.{leb, ltb}
 use lib.ListN.{length, length-append, length-map}
 use Rattle.sets.specs.Sets.{span}
 use Rattle.sets.proofs.Spans.{span_length}
 use Rattle.files.specs.Limits.{part_words}
-use Rattle.files.specs.Refuse.{◌unless◌}
 use Rattle.files.proofs.Checks.{checks}
 use Rattle.dearest.specs.Dearest.{dear_door, dear_part, dear_rest, dear_path, counts_check}
 
@@ -48,16 +44,3 @@ rest_length (suc k) = omega (arith, rest_length k)
 pub path_fits : (n : ℕ) → 1 ≤ n → length (dear_path n) ≡ 2 * n + 1
 unfolding dear_path
 path_fits n h = omega (arith, rest_length (n - 1))
-
--- sixty-four bits hold the count of the part's words
-pub product_fits : (D T : ℕ) → D < 2 ^ 32 → T < 2 ^ 32 → D * (1 + T) ≤ (2 ^ 32 - 1) * 2 ^ 32
-product_fits D T h k =
-    let l : D ≤ 2 ^ 32 - 1 = omega arith in
-    le_trans (mul-le-mul_left D (omega arith)) (mul-le-mul_right (2 ^ 32) l)
-
--- for the proof of `check_counts`: f is what `part_fits` says
-pub counts_same : (D T n : ℕ) {r : ℕ} {f : Bool} → f ≡ (leb (D + T) 65536 && leb (1 + D * (1 + T)) part_words)
-    → r ≡ (21 unless (ltb 0 D && ltb 0 T && ltb 0 n && leb n 15 && f)) → r ≡ counts_check D T n
-counts_same D T n e q =
-    let some = ltb 0 D && ltb 0 T && ltb 0 n && leb n 15 in
-    q ∙ ap (21 unless◌) (ap (some &&◌) e ∙ sym (and_assoc some (leb (D + T) 65536) (leb (1 + D * (1 + T)) part_words)))

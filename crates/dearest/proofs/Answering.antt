@@ -1,7 +1,7 @@
 -- The call: what passed checks say, that neither file is over its limit, and what the call leaves. Assumes nothing.
 use mathlib.Core.Path.{◌≡◌, refl, sym, subst, ◌∙◌, ap}
 use mathlib.Core.List.{List}
-use Prim.Native.Nat.{ℕ, zero, suc, ◌+◌, ◌*◌, ◌≤◌, ◌<◌}
+use Prim.Native.Nat.{ℕ, zero, suc, ◌≤◌}
 use native.Mathlib.Omega.{arith}
 use borrow.Author.Tests.{le-leb}
 use lib.ListN.{length}
@@ -23,13 +23,6 @@ writable {a} {b} {m} {D} {T} {n} e z =
     let q : room_check path_words b m ≡ 0 = p.read.0 in
     let h = simp number-checks at q in
     record { part_holds = p.room.holds; path_holds = h.0; counts = p.read.1.0 }
-
--- the writers' own needs
-pub part_writable : {a b D T n : ℕ} → Writable a b D T n → {l : ℕ} → l ≡ a → (D + T ≤ 65536) × (4 * part_words ≤ l)
-part_writable {D = D} {T = T} {n = n} w e = (((counts_iff D T n).0 w.counts).nodes, omega (arith, w.part_holds))
-
-pub path_writable : {a b D T n : ℕ} → Writable a b D T n → {l : ℕ} → l ≡ b → (0 < n) × (n < 16) × (4 * path_words ≤ l)
-path_writable {D = D} {T = T} {n = n} w e = let c = (counts_iff D T n).0 w.counts in (c.labels, omega (arith, c.few), omega (arith, w.path_holds))
 
 -- neither file is over its limit
 pub files_fit : {a b D T n : ℕ} → Writable a b D T n → (length (dear_part D T) ≤ part_words) × (length (dear_path n) ≤ path_words)

@@ -4,7 +4,7 @@ use mathlib.Core.Bool.{true, false}
 use mathlib.Core.List.{List, [], ◌∷◌, ◌++◌, flatten}
 use Prim.Native.Nat.{ℕ, zero, suc, ◌+◌, ◌-◌, ◌≤◌, ◌<◌}
 use native.Mathlib.Omega.{arith}
-use borrow.Author.Tests.{lt-ltb, le-ltb}
+use borrow.Author.Tests.{lt-ltb}
 use lib.ListN.{length}
 use Rattle.sets.proofs.Spans.{each, each_one}
 use Rattle.files.specs.Field.{node_word, edge_word}
@@ -29,10 +29,6 @@ ranges_are (suc n) h =
     let e : suc n + 1 - 1 ≡ suc n = omega arith in
     let f : suc n - 1 ≡ n = omega arith in
     rw (e, f) (ap (full_range ∷◌) (rest_is 2 n (omega arith)))
-
--- a range by itself, and with its or: v is the word of the range, w that of the or
-pub range_alone : {limit n : ℕ} {a b : List ℕ} {i r v : ℕ} (k : ℕ) → k ≤ 1 → v ≡ full_range → Writes limit n a i b r (v ∷ []) → Writes limit n a i b r (range_of k)
-range_alone k h e f = rw (le-ltb 1 k h) (rw e at f)
 
 pub range_joined : {limit n : ℕ} {a b c : List ℕ} {i j r v w : ℕ} (k : ℕ) → 1 < k → v ≡ full_range → w ≡ operator_word 2 → Writes limit n a i b j (v ∷ [])
     → length b ≡ n → Writes limit (length b) b j c r (w ∷ []) → Writes limit n a i c r (range_of k)

@@ -18,10 +18,8 @@ fn write_door(x: u32, doors: u32, targets: u32, out: &mut [u8], start: usize) ->
     ensures { Writes part_words (length out.old) out.old start out.new result (dear_door doors targets x) }
 {
     let mut count = push(out, PART_WORDS, start, node_word(x, true, false, false));
-    let mut t = doors;
-    while t < doors + targets {
+    for t in doors..doors + targets {
         count = push(out, PART_WORDS, count, edge_word(0, t));
-        t += 1;
     }
     count
 }
@@ -32,10 +30,8 @@ fn write_doors(doors: u32, targets: u32, out: &mut [u8], start: usize) -> usize
     ensures { Writes part_words (length out.old) out.old start out.new result (flatten (map (dear_door doors targets) (span 0 doors))) }
 {
     let mut count = start;
-    let mut x = 0;
-    while x < doors {
+    for x in 0..doors {
         count = write_door(x, doors, targets, out, count);
-        x += 1;
     }
     count
 }

@@ -30,10 +30,8 @@ fn write_ranges(labels: u32, out: &mut [u8], start: usize) -> usize
     ensures { Writes path_words (length out.old) out.old start out.new result (full_range ∷ dear_rest (labels - 1)) }
 {
     let mut count = start;
-    let mut k = 1;
-    while k <= labels {
+    for k in 1..=labels {
         count = write_range(k, out, count);
-        k += 1;
     }
     push(out, PATH_WORDS, count, operator_word(3))
 }

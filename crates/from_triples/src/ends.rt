@@ -24,9 +24,7 @@ pub fn add_all(triples: &[u8], work: &mut [u8], n: usize)
     requires { (nodes_end ≤ length work.old) × (n < 65536) × ((i : ℕ) → i < n → EndsFit (words triples.now) i) }
     ensures { AllAdded (words triples.now) n work.old work.new }
 {
-    let mut i = 0;
-    while i < n {
+    for i in 0..n {
         add_ends(triples, work, i);
-        i += 1;
     }
 }

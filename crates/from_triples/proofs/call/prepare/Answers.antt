@@ -3,19 +3,13 @@ use borrow.Author.Rules.{rules}
 use native.Mathlib.Omega.{arith}
 use lib.ListN.{length}
 use Rattle.files.specs.Word.{words}
-use Rattle.from_triples.proofs.Filing.{root_fits, ends_fit, prepared}
+use Rattle.from_triples.proofs.Filing.{ends_fit, prepared}
 use Rattle.from_triples.proofs.call.prepare.Goals as goal
-
-pub add-requires : goal.add-requires
-add-requires c = (search rules, rw c.word_at.ensures (root_fits (words c.args.triples.now) c.requires.2))
 
 pub add_all-requires : goal.add_all-requires
 add_all-requires c =
     let count = c.count_triples-n.ensures in
     (search rules, omega (arith, count, c.requires.1), λ i l. ends_fit (words c.args.triples.now) c.requires.2 i (rw count at l))
-
-pub build-requires : goal.build-requires
-build-requires c = (search rules, omega (arith, c.count_triples-n.ensures, c.requires.1))
 
 pub returns : goal.returns
 returns c =

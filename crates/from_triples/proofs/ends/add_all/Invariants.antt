@@ -1,11 +1,7 @@
 -- `from_triples::ends::add_all` meets its contract. Assumes nothing.
-use Prim.Native.Nat.{◌-◌}
 use Rattle.files.specs.Word.{words}
 use Rattle.from_triples.proofs.Ending.{Gathering}
 use Rattle.from_triples.proofs.ends.add_all.Given as goal
 
 abbrev pub invariant-loop-i : goal.invariant-loop-i
 invariant-loop-i l = Gathering (words l.triples) l.n l.initial.work l.work l.i
-
-abbrev pub decreases-loop-i : goal.decreases-loop-i
-decreases-loop-i l = l.n - l.i

@@ -3,9 +3,6 @@ use borrow.Author.Rules.{rules}
 use Rattle.generator.proofs.Writing.{node_written}
 use Rattle.generator.proofs.nodes.write_node.Goals as goal
 
-pub gather-g-requires : goal.gather-g-requires
-gather-g-requires c = (c.requires.0, search rules)
-
 pub returns : goal.returns
 returns c =
     let a = c.args in

@@ -1,16 +1,10 @@
 -- `generator::nodes::write_nodes` meets its contract. Assumes nothing.
-use native.Mathlib.Omega.{arith}
 use borrow.Author.Rules.{rules}
 use Rattle.generator.proofs.Writing.{noding_none, noding_more, noding_last}
 use Rattle.generator.proofs.nodes.write_nodes.Goals as goal
 
 pub loop-x-init : goal.loop-x-init
 loop-x-init c = noding_none _ _ _ _ _
-
-pub write_node-p-requires : goal.write_node-p-requires
-write_node-p-requires c =
-    let counts = c.requires.0 in
-    (counts, omega (arith, c.loop-x-test.true, counts.few), search rules)
 
 pub loop-x-preserved : goal.loop-x-preserved
 loop-x-preserved c =

@@ -1,10 +1,6 @@
 -- `generator::nodes::write_nodes` meets its contract. Assumes nothing.
-use Prim.Native.Nat.{◌-◌}
 use Rattle.generator.proofs.Writing.{Noding}
 use Rattle.generator.proofs.nodes.write_nodes.Given as goal
 
 abbrev pub invariant-loop-x : goal.invariant-loop-x
 invariant-loop-x l = Noding l.nodes l.edges l.state l.initial.out l.start l.out l.count l.s l.x
-
-abbrev pub decreases-loop-x : goal.decreases-loop-x
-decreases-loop-x l = l.nodes - l.x

@@ -1,19 +1,15 @@
 -- `triples::check::has_large` meets its contract. Assumes nothing.
-use borrow.Author.Rules.{rules}
-use mathlib.Core.Path.{refl}
-use Rattle.sets.proofs.Spans.{span_length}
-use Rattle.files.proofs.Scans.{seeking_found, seeking_more, seeking_last}
-use Rattle.triples.proofs.Reading.{seen}
+use Rattle.std.proofs.Common.{ℕ, Bool, refl, arith, rules, tests, ◌∙◌}
+use Rattle.std.proofs.lemmas.Iterator.{YieldsList-from_range}
+use Rattle.std.proofs.lemmas.Iterator.Search.{any_from_yields_List}
+use Rattle.files.specs.Word.{words}
+use Rattle.triples.specs.At.{large_at}
+use Rattle.triples.proofs.Reading.{any_in_range}
 use Rattle.triples.proofs.check.has_large.Goals as goal
 
-pub loop-i-init : goal.loop-i-init
-loop-i-init c = record { same = refl }
-
-pub returns-then-is_large : goal.returns-then-is_large
-returns-then-is_large c = search (seeking_found, seen, span_length, rules)
-
-pub loop-i-preserved : goal.loop-i-preserved
-loop-i-preserved c = search (seeking_more, seen, span_length, rules)
-
 pub returns : goal.returns
-returns c = search (seeking_last, span_length, rules)
+returns c =
+    let large : ℕ → Bool = large_at (words c.args.triples.now) in
+    let n = c.args.n in
+    any_from_yields_List large _ _ c.any.result c.any.ensures.ran (YieldsList-from_range 0 n n refl (omega arith)) (λ x b q k. search (rules, tests))
+    ∙ any_in_range large 0 n
