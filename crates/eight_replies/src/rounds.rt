@@ -13,14 +13,6 @@ use path_bundles::split::count_files;
 
 pub const DESKS: usize = 8;
 
-// How many of so many desks come behind desk i.
-fn to_come(desks: usize, i: usize) -> usize
-    requires { i < 8 }
-    ensures { result ≡ desks - (i + 1) }
-{
-    if i + 1 < desks { desks - (i + 1) } else { 0 }
-}
-
 // All desks. Those from `next` on, if any, are left to the second round.
 fn lay_all(
     whole: u32,
@@ -40,11 +32,9 @@ fn lay_all(
         words: 0,
         later: 0,
     };
-    let mut i = 0;
-    while i < DESKS {
-        let come = to_come(desks, i);
+    for i in 0..DESKS {
+        let come = desks.saturating_sub(i + 1);
         s = lay(whole, part, groups, paths, i, come, s, out, work);
-        i += 1;
     }
     s
 }

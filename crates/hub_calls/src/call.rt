@@ -1,5 +1,5 @@
 // The call that lists the called pairs of a bundle of first replies.
-ghost use Rattle.std.specs.Prelude.{◌≡◌, [], ◌∷◌, ◌/◌, ◌≤◌, length};
+ghost use Rattle.std.specs.Prelude.{◌≡◌, [], ◌∷◌, ◌/◌, ◌≤◌, ◌<◌, length, MatchResult};
 ghost use Rattle.files.specs.Word.{words};
 ghost use Rattle.files.specs.Outcome.{left, leaves};
 ghost use Rattle.files.specs.Bundle.{first_bundle_check};
@@ -21,48 +21,36 @@ use hub_search::search::search;
 use output::close::close;
 use output::settle::settle;
 
-// The number of the checks, and the number of doors in the index where all passed.
-#[derive(Clone, Copy)]
-pub struct Verdict {
-    pub number: u32,
-    pub doors: usize,
-}
-
-// 14: searches the called pairs of an accepted bundle, and refuses if one of them names no door.
-fn find(bundle: &[u8], out: &mut [u8], work: &mut [u8]) -> Verdict
+// Searches the called pairs of an accepted bundle, and refuses with 14 if one of them names no door. Gives the number of doors in the index.
+fn find(bundle: &[u8], out: &mut [u8], work: &mut [u8]) -> Result<usize, u32>
     requires room_for { RoomFor reply_words (length out.old) (length work.old) × (length bundle.now / 4 ≤ bundle_words) }
-    requires bundle_value { first_bundle_check (words bundle.now) ≡ 0 }
-    ensures number_value { result.number ≡ stray_check (words bundle.now) }
-    ensures listable { result.number ≡ 0 → Listable (words bundle.now) work.new result.doors }
+    requires accepted { first_bundle_check (words bundle.now) ≡ 0 }
+    ensures { MatchResult result (λ doors. (0 ≡ stray_check (words bundle.now)) × Listable (words bundle.now) work.new doors)
+        (λ n. (n ≡ stray_check (words bundle.now)) × (0 < n)) }
 {
     clear(out);
     clear(work);
     let doors = index_doors(bundle, out, work);
     if search(bundle, out, work, doors) {
-        return Verdict { number: 14, doors };
+        return Err(14);
     }
-    Verdict { number: 0, doors }
+    Ok(doors)
 }
 
-// The number of the first check that fails: the buffers, the bundle, the pairs that it calls.
-fn check(bundle: &[u8], out: &mut [u8], work: &mut [u8]) -> Verdict
-    ensures checked { Checked reply_words (length out.old) (length work.old)
-        (input bundle_words bundle.now (first_bundle_check (words bundle.now)) ∷ also (stray_check (words bundle.now)) ∷ []) result.number }
-    ensures listable { result.number ≡ 0 → Listable (words bundle.now) work.new result.doors }
+// The number of doors in the index, or the number of the first check that fails: the buffers, the bundle, the pairs that it calls.
+fn check(bundle: &[u8], out: &mut [u8], work: &mut [u8]) -> Result<usize, u32>
+    ensures { let inputs = input bundle_words bundle.now (first_bundle_check (words bundle.now)) ∷ also (stray_check (words bundle.now)) ∷ [] in
+        MatchResult result
+        (λ doors. Checked reply_words (length out.old) (length work.old) inputs 0 × Listable (words bundle.now) work.new doors)
+        (λ n. Checked reply_words (length out.old) (length work.old) inputs n × (0 < n)) }
 {
     let room = check_room(REPLY_WORDS, out.len(), work.len());
     if room != 0 {
-        return Verdict {
-            number: room,
-            doors: 0,
-        };
+        return Err(room);
     }
     let n = check_bundle(bundle, Trip::First, work);
     if n != 0 {
-        return Verdict {
-            number: n,
-            doors: 0,
-        };
+        return Err(n);
     }
     find(bundle, out, work)
 }
@@ -84,12 +72,10 @@ fn write(bundle: &[u8], out: &mut [u8], work: &[u8], doors: usize) -> u32
 fn answer(bundle: &[u8], out: &mut [u8], work: &mut [u8]) -> u32
     ensures { Responds (call_list_call (length out.old) (length work.old) bundle.now) (length out.old) out.new result }
 {
-    let verdict = check(bundle, out, work);
-    let n = verdict.number;
-    if n != 0 {
-        return n;
+    match check(bundle, out, work) {
+        Ok(doors) => write(bundle, out, work, doors),
+        Err(number) => number,
     }
-    write(bundle, out, work, verdict.doors)
 }
 
 // The call list of a bundle of first replies.

@@ -20,7 +20,7 @@ use Rattle.door_index.specs.Index.{DoorAt, Indexed}
 use Rattle.door_index.proofs.Doors.{door_mem}
 use Rattle.row_scan.specs.declared.rows.Rows.{Rows}
 use Rattle.row_scan.specs.Following.{in_rows, TurnsRow}
-use Rattle.hub_search.specs.Search.{Waiting, Roomy, Entered, Growing, Placed, InRows, Followed}
+use Rattle.hub_search.specs.Search.{Waiting, Roomy, Entered, Growing, Placed, InRows, Stray, Followed}
 use Rattle.hub_search.proofs.Places.{at_within}
 use Rattle.hub_search.proofs.Entries.{roomy_same}
 use Rattle.hub_search.proofs.Growing.{growing_first, growing_more, growing_left, entered_pair}
@@ -156,13 +156,8 @@ module _ {ws o : List ℕ} {d i s : ℕ} {w₀ w : List ℕ} {a : Rows} {k top :
       stands = f.inside (pair_of v) (rw rest (reach_here a v (drop (k + 1) ws) (pair_of v) reach (on, refl)))
 
       -- its node is no door
-      pub following_stray : {w' : List ℕ} {height : ℕ} → (Mem (pair_node (pair_of v)) (doors ws) → ⊥) → Followed ws d i s w₀ w' true height
-      following_stray n = record {
-        strays = λ e. (pair_of v, stands, n);
-        homely = λ e. absurd (clash refl e);
-        enters = λ e. absurd (clash refl e);
-        waiting = λ e. absurd (clash refl e);
-      }
+      pub following_stray : ¬ Mem (pair_node (pair_of v)) (doors ws) → Stray ws (InRows s (drop (suc i) ws))
+      following_stray n = (pair_of v, stands, n)
 
       -- it is entered
       pub following_enter : {j q : ℕ} {w' : List ℕ} {top' : ℕ} → DoorAt ws (pair_node (pair_of v)) j → q ≡ state_of v → Entered ws d w w' j q → Waiting ws d w' top'
@@ -181,10 +176,9 @@ module _ {ws o : List ℕ} {d i s : ℕ} {w₀ w : List ℕ} {a : Rows} {k top :
       })
 
   -- the rows are at their end
-  pub following_last : in_rows (get_or ws k 0) ≡ false → Followed ws d i s w₀ w false top
+  pub following_last : in_rows (get_or ws k 0) ≡ false → Followed ws d i s w₀ w top
   following_last n = record {
-    strays = λ e. absurd (clash e refl);
-    homely = λ e c m. ⊎_elim (λ z. z) (λ z. absurd (left_none ws k a c n z)) (f.named c m);
-    enters = λ e. growing_left f.grown (λ j p (c, m, x, y). left_none ws k a c n m);
-    waiting = λ e. f.waiting;
+    homely = λ c m. ⊎_elim (λ z. z) (λ z. absurd (left_none ws k a c n z)) (f.named c m);
+    enters = growing_left f.grown (λ j p (c, m, x, y). left_none ws k a c n m);
+    waiting = f.waiting;
   }

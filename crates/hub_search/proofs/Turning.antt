@@ -2,7 +2,7 @@
 -- the called pairs, and all of them name doors. Assumes nothing.
 use mathlib.Core.Path.{◌≡◌, refl, sym, ◌∙◌}
 use mathlib.Core.Logic.{inl, inr, ⊎_elim, ◌↔◌}
-use mathlib.Core.Bool.{Bool, true, false, not, ◌&&◌}
+use mathlib.Core.Bool.{true, false, not, ◌&&◌}
 use mathlib.Core.List.Memᴰ
 use mathlib.Core.List.{List, [], ◌∷◌}
 use Prim.Native.Nat.{ℕ, zero, suc, ◌+◌, ◌-◌, ◌≤◌, ◌<◌}
@@ -29,7 +29,7 @@ use Rattle.files.proofs.Fields.{pair_node_lem, pair_state_lem}
 use Rattle.door_index.specs.Index.{DoorAt, Indexed, index_at}
 use Rattle.door_index.proofs.Doors.{door_later, place_node}
 use Rattle.row_scan.specs.Following.{in_rows}
-use Rattle.hub_search.specs.Search.{expands, reached_at, pending_at, waits_in, place_in, Waiting, Roomy, IndexKept, PairsEntered, Placed, RowLeads, InRows, Homely, Followed, IsRoot, Called, PairsCalled, Searched}
+use Rattle.hub_search.specs.Search.{expands, reached_at, pending_at, waits_in, place_in, Waiting, Roomy, IndexKept, PairsEntered, Placed, RowLeads, InRows, Stray, Homely, Followed, IsRoot, Called, PairsCalled, Searched}
 use Rattle.hub_search.proofs.Places.{at_within, expand_door, expand_within}
 use Rattle.hub_search.proofs.Entries.{some_state, kept_then, roomy_same, put_here, put_index, put_kept, put_rows}
 use Rattle.hub_search.proofs.Seeks.{door_at_lem, indexed_kept}
@@ -227,10 +227,10 @@ module _ {ws o : List ℕ} {n : ℕ} {w₀ w : List ℕ} {top : ℕ} (f : Runnin
   pending_is q = rw (grows, es)
 
   -- a stray is met: a pair of the rows that are followed is called
-  pub running_stray : {d w' w'' : List ℕ} {stray : Bool} {height : ℕ} → ((j q : ℕ) → reached_at ws d j q ≡ false) → PairsEntered ws n (Placed ws (IsRoot ws)) d w₀
-      → Followed ws n i s taken w' stray height → stray ≡ true → Searched ws n d w'' true
-  running_stray {d} none rooted g t = record {
-    strays = λ e. let (c, m, x) = g.strays t in (c, row_called c m, x);
+  pub running_stray : {d w' : List ℕ} → ((j q : ℕ) → reached_at ws d j q ≡ false) → PairsEntered ws n (Placed ws (IsRoot ws)) d w₀
+      → Stray ws (InRows s (drop (suc i) ws)) → Searched ws n d w' true
+  running_stray {d} none rooted (c, m, x) = record {
+    strays = λ e. (c, row_called c m, x);
     homely = λ e. absurd (clash refl e);
     called = λ e. absurd (clash refl e);
     kept = λ e. absurd (clash refl e);
@@ -243,9 +243,9 @@ module _ {ws o : List ℕ} {n : ℕ} {w₀ w : List ℕ} {top : ℕ} (f : Runnin
           let k : Mem c (rows ws b) = rw (rows_at b ws i db, ← eb) m in
           reach-next rb k
 
-  module _ (small : s < 65536) {w₂ : List ℕ} {stray : Bool} {height : ℕ} (g : Followed ws n i s taken w₂ stray height) (t : stray ≡ false) where
+  module _ (small : s < 65536) {w₂ : List ℕ} {height : ℕ} (g : Followed ws n i s taken w₂ height) where
     abbrev grown : PairsEntered ws n (Placed ws (InRows s (drop (suc i) ws))) taken w₂
-    grown = g.enters t
+    grown = g.enters
 
     turn : Turn (length ws) (RowLeads ws) (expands ws) i (reached_at ws w) (pending_at ws w) (pending_at ws taken) (reached_at ws w₂) (pending_at ws w₂)
     turn = record {
@@ -273,13 +273,13 @@ module _ {ws o : List ℕ} {n : ℕ} {w₀ w : List ℕ} {top : ℕ} (f : Runnin
         turn_holds (length ws) (RowLeads ws) (expands ws) i (reached_at ws w₀) (reached_at ws w) (pending_at ws w) (pending_at ws taken) (reached_at ws w₂) (pending_at ws w₂)
         inside (λ i q j x h (e, (c, k, at, r)). at.within) (λ i q j x (e, (c, k, at, r)). row_expands ws i q c e k) f.searching turn low low_is.0 low_is.1
         (λ j q. is_door_word (get_or ws j 0) ≡ true → RowHome ws j q) (λ j q l a b dr. f.home j q l dr a b)
-        (λ q a dr c k. g.homely t c (q, sym (pending_is q) ∙ a, k)) j q l (row_expands ws j q c dr k) m p dr c k
+        (λ q a dr c k. g.homely c (q, sym (pending_is q) ∙ a, k)) j q l (row_expands ws j q c dr k) m p dr c k
 
     pub running_turn : Running ws o n w₀ w₂ height
     running_turn = record {
       searching = turned.next;
       home = home;
-      waiting = g.waiting t;
+      waiting = g.waiting;
       roomy = roomy_same f.roomy (grown.kept.long ∙ kept₁.long);
       indexed = indexed_kept f.indexed (kept_then kept₁ grown.kept);
       kept = kept_then f.kept (kept_then kept₁ grown.kept);

@@ -93,12 +93,11 @@ Stray ws P = (c : ℕ) × P c × (Mem (pair_node c) (doors ws) → ⊥)
 abbrev pub Homely : List ℕ → (ℕ → Type 0) → Type 0
 Homely ws P = (c : ℕ) → P c → Mem (pair_node c) (doors ws)
 
--- the rows of the states of s behind place i were followed: one of their pairs is a stray, or all are entered
-pub record Followed (ws : List ℕ) (d i s : ℕ) (w w' : List ℕ) (stray : Bool) (top : ℕ) : Type 0 where
-  pub strays : stray ≡ true → Stray ws (InRows s (drop (suc i) ws))
-  pub homely : stray ≡ false → Homely ws (InRows s (drop (suc i) ws))
-  pub enters : stray ≡ false → PairsEntered ws d (Placed ws (InRows s (drop (suc i) ws))) w w'
-  pub waiting : stray ≡ false → Waiting ws d w' top
+-- the rows of the states of s behind place i were followed: none of their pairs is a stray, and all are entered
+pub record Followed (ws : List ℕ) (d i s : ℕ) (w w' : List ℕ) (top : ℕ) : Type 0 where
+  pub homely : Homely ws (InRows s (drop (suc i) ws))
+  pub enters : PairsEntered ws d (Placed ws (InRows s (drop (suc i) ws))) w w'
+  pub waiting : Waiting ws d w' top
 
 -- The search
 

@@ -15,7 +15,7 @@ fn wait(bundle: &[u8], work: &mut [u8], doors: usize, j: usize, q: u32, top: usi
     requires roomy { Roomy (words bundle.now) doors work.old × (expands (words bundle.now) j ≡ true) × (q < 16) }
     requires waiting { Waiting (words bundle.now) doors work.old top }
     ensures waits { Waits (words bundle.now) doors work.old work.new j q }
-    ensures waiting_2 { Waiting (words bundle.now) doors work.new result }
+    ensures still_waiting { Waiting (words bundle.now) doors work.new result }
 {
     let p = get16(work, 0, j + 1);
     put16(work, 0, j + 1, with(p, q));
@@ -31,7 +31,7 @@ pub fn enter(bundle: &[u8], work: &mut [u8], doors: usize, j: usize, q: u32, top
     requires roomy { Roomy (words bundle.now) doors work.old × (is_door_word (get_or (words bundle.now) j 0) ≡ true) × (q < 16) }
     requires waiting { Waiting (words bundle.now) doors work.old top }
     ensures entered { Entered (words bundle.now) doors work.old work.new j q }
-    ensures waiting_2 { Waiting (words bundle.now) doors work.new result }
+    ensures still_waiting { Waiting (words bundle.now) doors work.new result }
 {
     let r = get16(work, 0, j);
     if has(r, q) {

@@ -29,7 +29,7 @@ fn seed(bundle: &[u8], work: &mut [u8], doors: usize) -> usize
 pub fn search(bundle: &[u8], counts: &[u8], work: &mut [u8], doors: usize) -> bool
     requires indexed { Indexed (words bundle.now) counts.now work.old doors × Roomy (words bundle.now) doors work.old }
     requires doors_once { DoorsOnce (words bundle.now) × (length (roots (words bundle.now)) ≡ 1) }
-    requires by_index { (i : ℕ) → i < bundle_words → half work.old 0 i ≡ 0 }
+    requires table_clear { (i : ℕ) → i < bundle_words → half work.old 0 i ≡ 0 }
     ensures { Searched (words bundle.now) doors work.old work.new result }
 {
     let mut top = seed(bundle, work, doors);
@@ -38,11 +38,10 @@ pub fn search(bundle: &[u8], counts: &[u8], work: &mut [u8], doors: usize) -> bo
         let i = get16(work, INDEX, doors + top) as usize;
         let s = get16(work, 0, i + 1);
         put16(work, 0, i + 1, 0);
-        let end = follow_rows(bundle, counts, work, doors, i, s, top);
-        if end.stray {
-            return true;
+        match follow_rows(bundle, counts, work, doors, i, s, top) {
+            Some(height) => top = height,
+            None => return true,
         }
-        top = end.top;
     }
     false
 }

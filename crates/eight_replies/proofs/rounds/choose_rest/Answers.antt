@@ -1,23 +1,14 @@
 -- `eight_replies::rounds::choose_rest` meets its contract. Assumes nothing.
 use borrow.Author.Rules.{rules}
 use native.Mathlib.Omega.{arith}
-use mathlib.Core.Path.{refl}
 use Rattle.eight_replies.proofs.Laying.{same_asking, may_choose, stood_more, stood_last}
 use Rattle.eight_replies.proofs.rounds.choose_rest.Goals as goal
-
-pub loop-s-init : goal.loop-s-init
-loop-s-init c =
-    (c.requires.1, refl, refl)
 
 pub choose-s-requires : goal.choose-s-requires
 choose-s-requires c =
     let a = c.args in
     let (d, out, work) = c.loop-s.invariant in
     (same_asking c.requires.0 out work, may_choose a.whole a.part.now a.groups.now a.paths.now d (omega (arith, c.loop-s-test.true)) out)
-
-pub loop-s-smaller : goal.loop-s-smaller
-loop-s-smaller c =
-    omega (arith, c.choose-s.ensures.settles.next_is, c.loop-s-test.true)
 
 pub loop-s-preserved : goal.loop-s-preserved
 loop-s-preserved c =

@@ -12,7 +12,7 @@ lay-s-requires c =
     let a = c.args in
     let (l, out, work) = c.loop-i.invariant in (
       same_asking c.requires.0 out work,
-      may_lay a.whole a.part.now a.groups.now a.paths.now l c.loop-i-test.true c.to_come-come.ensures
+      may_lay a.whole a.part.now a.groups.now a.paths.now l c.loop-i-test.true c.saturating_sub-come.ensures
           (files_few a.paths.now c.count_files-desks.ensures) out,
     )
 
@@ -20,7 +20,7 @@ pub loop-i-preserved : goal.loop-i-preserved
 loop-i-preserved c =
     let a = c.args in
     let (l, out, work) = c.loop-i.invariant in
-    let turned = rw (out, c.to_come-come.ensures) at c.lay-s.ensures in
+    let turned = rw (out, c.saturating_sub-come.ensures) at c.lay-s.ensures in
     (laying_more a.whole a.part.now a.groups.now a.paths.now l c.loop-i-test.true c.count_files-desks.ensures c.requires.0.ready turned, c.lay-s.auto.out ∙ out, c.lay-s.auto.work ∙ work)
 
 pub returns : goal.returns

@@ -1,5 +1,4 @@
 -- `eight_replies::rounds::lay_all` meets its contract. Assumes nothing.
-use Prim.Native.Nat.{◌-◌}
 use mathlib.Core.Path.{◌≡◌}
 use lib.ListN.{length}
 use Rattle.desks.specs.Owns.{owns}
@@ -8,6 +7,3 @@ use Rattle.eight_replies.proofs.rounds.lay_all.Given as goal
 
 abbrev pub invariant-loop-i : goal.invariant-loop-i
 invariant-loop-i l = Laying (length l.initial.out) (owns l.whole l.part l.groups 8 l.paths) l.desks l.i l.s l.out × (length l.out ≡ length l.initial.out) × (length l.work ≡ length l.initial.work)
-
-abbrev pub decreases-loop-i : goal.decreases-loop-i
-decreases-loop-i l = 8 - l.i

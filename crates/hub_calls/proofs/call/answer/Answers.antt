@@ -1,22 +1,21 @@
 -- `hub_calls::call::answer` meets its contract. Assumes nothing.
-use mathlib.Core.Path.{◌≡◌}
+use mathlib.Core.Path.{◌≡◌, refl}
+use native.Mathlib.Omega.{arith}
 use borrow.Author.Rules.{rules}
 use lib.ListN.{length}
 use Rattle.output.proofs.Frame.{passed, answer_refused, answer_filed}
 use Rattle.hub_calls.specs.CallList.{call_list_call}
 use Rattle.hub_calls.proofs.call.answer.Goals as goal
 
-pub returns-then-n-ne0 : goal.returns-then-n-ne0
-unfolding call_list_call
-returns-then-n-ne0 c = answer_refused _ _ _ _ _ c.check-verdict.ensures.checked.is c.if-n-ne0.true
+pub write-requires-clause-passed : goal.write-requires-clause-passed
+write-requires-clause-passed c = passed refl c.in-Ok.ensures.0 (search rules) (search rules)
 
-pub write-requires : goal.write-requires
-write-requires c =
-    let checks = c.check-verdict.ensures in
-    record { passed = passed c.if-n-ne0.false checks.checked (search rules) (search rules); listable = checks.listable c.if-n-ne0.false }
-
-pub returns : goal.returns
+pub returns-in-Ok : goal.returns-in-Ok
 unfolding call_list_call
-returns c =
-    let same : length c.args.out.now ≡ length c.check-verdict.new.out = search rules in
-    answer_filed _ _ _ _ c.check-verdict.ensures.checked.is c.if-n-ne0.false (rw same c.write.ensures)
+returns-in-Ok c =
+    let same : length c.args.out.now ≡ length c.check.new.out = search rules in
+    answer_filed _ _ _ _ c.in-Ok.ensures.0.is refl (rw same c.write.ensures)
+
+pub returns-in-Err : goal.returns-in-Err
+unfolding call_list_call
+returns-in-Err c = answer_refused _ _ _ _ _ c.in-Err.ensures.0.is (omega (arith, c.in-Err.ensures.1))

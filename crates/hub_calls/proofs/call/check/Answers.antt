@@ -1,23 +1,21 @@
 -- `hub_calls::call::check` meets its contract. Assumes nothing.
 use borrow.Author.Rules.{rules}
+use native.Mathlib.Omega.{arith}
 use mathlib.Core.Path.{refl}
 use lib.ListN.{length}
-use Rattle.output.proofs.Frame.{checking, checked, check_passes, check_also, check_last, passed, works}
+use Rattle.output.proofs.Frame.{checking, checked, check_passes, check_last, passed, works}
 use Rattle.hub_calls.proofs.call.check.Goals as goal
 
 pub returns-then-room-ne0 : goal.returns-then-room-ne0
-returns-then-room-ne0 c = record { checked = search (checking, rules); listable = (λ z. absurd (c.if-room-ne0.true z)) }
+returns-then-room-ne0 c = (search (checking, rules), omega arith)
 
 pub check_bundle-n-requires : goal.check_bundle-n-requires
 check_bundle-n-requires c = search (works, rules)
 
 pub returns-then-n-ne0 : goal.returns-then-n-ne0
-returns-then-n-ne0 c = record { checked = search (checking, rules); listable = (λ z. absurd (c.if-n-ne0.true z)) }
+returns-then-n-ne0 c = (search (checking, rules), omega arith)
 
 pub find-requires : goal.find-requires
 find-requires c =
     let p = passed {out = length c.args.out.now} {work = length c.args.work.now} {l = length c.args.out.now} {m = length c.check_bundle-n.new.work} c.if-n-ne0.false (checked (check_passes {s = c.args.bundle.now} c.check_room-room.ensures c.if-room-ne0.false (check_last c.check_bundle-n.ensures.value))) refl c.check_bundle-n.ensures.work_len_unchanged in
-    record { room_for = (p.room, p.read.0.size); bundle_value = p.read.0.read }
-
-pub returns : goal.returns
-returns c = record { checked = checked (check_passes c.check_room-room.ensures c.if-room-ne0.false (check_also c.check_bundle-n.ensures.value c.if-n-ne0.false (check_last c.find.ensures.number_value))); listable = c.find.ensures.listable }
+    record { room_for = (p.room, p.read.0.size); accepted = p.read.0.read }

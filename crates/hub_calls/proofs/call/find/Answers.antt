@@ -9,21 +9,19 @@ use Rattle.hub_calls.proofs.call.find.Goals as goal
 
 pub index_doors-doors-requires : goal.index_doors-doors-requires
 index_doors-doors-requires c =
-    let cleared-out = c in
-    let start = cleared-out in
-    let room = start.requires.room_for.0 in
-    record { bundle_len_bound = (start.requires.room_for.1, search (room.holds, rules), search (room.works, rules)); out_value = search (zeros_all, rules); doors_once = (one_root _ start.requires.bundle_value).0 }
+    let room = c.requires.room_for.0 in
+    record { room = (c.requires.room_for.1, search (room.holds, rules), search (room.works, rules)); out_clear = search (zeros_all, rules); doors_once = (one_root _ c.requires.accepted).0 }
 
 pub search-requires : goal.search-requires
 search-requires c =
     let indexed = c.index_doors-doors.ensures.indexed in
     let placed = c.index_doors-doors.ensures.placed in
     let ws = words c.args.bundle.now in
-    record { indexed = (indexed, roomy c.args.bundle.now c.requires.room_for.1 (search (c.requires.room_for.0.works, rules)) indexed); doors_once = one_root ws c.requires.bundle_value; by_index = cleared ws (length c.args.work.now) c.clear-2.ensures placed }
+    record { indexed = (indexed, roomy c.args.bundle.now c.requires.room_for.1 (search (c.requires.room_for.0.works, rules)) indexed); doors_once = one_root ws c.requires.accepted; table_clear = cleared ws (length c.args.work.now) c.clear-2.ensures placed }
 
 pub returns-then-search : goal.returns-then-search
-returns-then-search c = record { number_value = stray_met _ c.search.ensures c.if-search.true; listable = (λ e. absurd (omega (arith, e))) }
+returns-then-search c = (stray_met _ c.search.ensures c.if-search.true, omega arith)
 
 pub returns : goal.returns
 returns c =
-    record { number_value = stray_none _ c.search.ensures c.if-search.false; listable = (λ e. listable c.index_doors-doors.ensures.indexed c.search.ensures c.if-search.false) }
+    (stray_none _ c.search.ensures c.if-search.false, listable c.index_doors-doors.ensures.indexed c.search.ensures c.if-search.false)

@@ -4,7 +4,7 @@ use Prim.Native.Nat.{◌+◌, ◌<◌}
 use native.Mathlib.Omega.{arith}
 use native.Mathlib.Numerals.{add-one}
 use Rattle.files.specs.Limits.{bundle_words}
-use Rattle.hub_search.proofs.Entries.{wait_place, wait_again, wait_room, wait_first}
+use Rattle.hub_search.proofs.Entries.{wait_again, wait_room, wait_first}
 use Rattle.hub_search.proofs.enter.wait.Goals.{Else-p-ne0}
 use Rattle.hub_search.proofs.enter.wait.Goals as goal
 
@@ -13,30 +13,13 @@ room : (b : Else-p-ne0) → b.args.doors + b.args.top < bundle_words
 room b =
     wait_room _ _ _ _ _ _ b.requires.roomy.0 b.requires.roomy.1 b.requires.waiting _ _ (rw (← add-one b.args.j) b.get16-p.ensures) b.with.ensures b.if-p-ne0.false
 
-pub overflow_add-j : goal.overflow_add-j
-overflow_add-j c = omega (arith, wait_place c.args.j c.requires.roomy.0 c.requires.roomy.1)
-
-pub get16-p-requires : goal.get16-p-requires
-get16-p-requires c = omega (arith, wait_place c.args.j c.requires.roomy.0 c.requires.roomy.1, c.requires.roomy.0.long)
-
-pub overflow_add-j-2 : goal.overflow_add-j-2
-overflow_add-j-2 c = omega (arith, wait_place c.args.j c.requires.roomy.0 c.requires.roomy.1)
-
-pub put16-requires : goal.put16-requires
-put16-requires c =
-    omega (arith, wait_place c.args.j c.requires.roomy.0 c.requires.roomy.1, c.requires.roomy.0.long)
-
 pub returns-then-p-ne0 : goal.returns-then-p-ne0
 returns-then-p-ne0 c =
     rw (c.put16.ensures, add-one c.args.j)
-    (let h = wait_again _ _ _ _ _ _ c.requires.roomy.0 c.requires.roomy.1 c.requires.waiting _ _ (rw (← add-one c.args.j) c.get16-p.ensures) c.with.ensures c.if-p-ne0.true in record { waits = h.0; waiting_2 = h.1 })
+    (let h = wait_again _ _ _ _ _ _ c.requires.roomy.0 c.requires.roomy.1 c.requires.waiting _ _ (rw (← add-one c.args.j) c.get16-p.ensures) c.with.ensures c.if-p-ne0.true in record { waits = h.0; still_waiting = h.1 })
 
 pub overflow_add-doors : goal.overflow_add-doors
 overflow_add-doors c = omega (arith, room (goal.at.overflow_add-doors c).Else-p-ne0)
-
-pub overflow_cast-j : goal.overflow_cast-j
-overflow_cast-j c =
-    omega (arith, wait_place c.args.j c.requires.roomy.0 c.requires.roomy.1)
 
 pub put16-requires-2 : goal.put16-requires-2
 put16-requires-2 c = omega (arith, room (goal.at.put16-requires-2 c).Else-p-ne0)
@@ -47,4 +30,4 @@ overflow_add-result c = omega (arith, room (goal.at.overflow_add-result c).Else-
 pub returns : goal.returns
 returns c =
     rw (c.put16-2.ensures, c.put16.ensures, add-one c.args.j)
-    (let h = wait_first _ _ _ _ _ _ c.requires.roomy.0 c.requires.roomy.1 c.requires.waiting _ _ (rw (← add-one c.args.j) c.get16-p.ensures) c.with.ensures c.if-p-ne0.false in record { waits = h.0; waiting_2 = h.1 })
+    (let h = wait_first _ _ _ _ _ _ c.requires.roomy.0 c.requires.roomy.1 c.requires.waiting _ _ (rw (← add-one c.args.j) c.get16-p.ensures) c.with.ensures c.if-p-ne0.false in record { waits = h.0; still_waiting = h.1 })

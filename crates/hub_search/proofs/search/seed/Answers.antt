@@ -10,4 +10,4 @@ enter-requires c = record { roomy = (c.requires.roomy.0, root_at _ _ c.requires.
 pub returns : goal.returns
 returns c =
     let entered = c.enter.ensures in
-    record { pairs_entered = root_entered _ _ c.requires.doors_once.1 c.find_kind-k.ensures c.requires.doors_once.0 entered.entered; waiting = entered.waiting_2 }
+    record { pairs_entered = root_entered _ _ c.requires.doors_once.1 c.find_kind-k.ensures c.requires.doors_once.0 entered.entered; waiting = entered.still_waiting }
