@@ -76,10 +76,3 @@ module _ {p : ℕ → Bool} {s : List ℕ} {i : ℕ} (f : Seeking p s i) where
 
   pub seeking_last : length s ≤ i → false ≡ any p s
   seeking_last l = rw (drop_of_length-le s {i = i} l) at f.same
-
--- a scan that sees more than another, f of it being what the other sees
-module _ {S T : Type 0} (f : S → T) (check : S → ℕ → ℕ) (next : S → ℕ → S) (end : S → ℕ) (check' : T → ℕ → ℕ) (next' : T → ℕ → T) (end' : T → ℕ)
-    (c : (st : S) (w : ℕ) → check st w ≡ check' (f st) w) (n : (st : S) (w : ℕ) → f (next st w) ≡ next' (f st) w) (e : (st : S) → end st ≡ end' (f st)) where
-  pub scan_along : (st : S) (ws : List ℕ) → scan_words check next end st ws ≡ scan_words check' next' end' (f st) ws
-  scan_along st [] = e st
-  scan_along st (w ∷ ws) = ap₂ (λ (a b : ℕ). a then b) (c st w) (scan_along (next st w) ws ∙ ap (λ (t : T). scan_words check' next' end' t ws) (n st w))

@@ -1,11 +1,12 @@
 // Files one after another, found by the lengths that their headers say. How many a bundle may have is the caller's to say.
-ghost use Rattle.std.specs.Prelude.{◌≡◌, ◌+◌, ◌≤◌, length, drop};
+ghost use Rattle.std.specs.Prelude.{◌≡◌, ◌≤◌, length};
+ghost use Rattle.files.specs.Refusal.{number};
 ghost use Rattle.path_bundles.specs.Split.{bytes_in, file_in, behind, split, uses_up, split_check};
 ghost use Rattle.path_bundles.specs.Place.{file_at};
 
 use files::field::size;
 use files::limits::BUNDLE_WORDS;
-use files::refuse::refuse;
+use files::refusal::{Refusal, ensure};
 use files::word::word_at;
 
 // How many bytes the file at the front has, as its header says.
@@ -28,74 +29,69 @@ pub fn file_in(stretch: &[u8]) -> &[u8]
     }
 }
 
+// What stands behind the file at the front: nothing, where its header says more than there is.
+fn behind(stretch: &[u8]) -> &[u8]
+    ensures { result.now ≡ behind stretch.now }
+{
+    let n = bytes_in(stretch);
+    if n <= stretch.len() {
+        &stretch[n..]
+    } else {
+        &[]
+    }
+}
+
 // Whether at most `most` files use up the bytes.
 fn uses_up(bundle: &[u8], most: usize) -> bool
     ensures { result ≡ uses_up most bundle.now }
 {
-    let mut at = 0;
-    let mut left = most;
-    while at < bundle.len() {
-        if left == 0 {
+    let mut rest = bundle;
+    for _ in 0..most {
+        if rest.is_empty() {
+            return true;
+        }
+        let n = bytes_in(rest);
+        let fits = (0 < n) & (n <= rest.len());
+        if !fits {
             return false;
         }
-        let n = bytes_in(&bundle[at..]);
-        if (0 < n) & (n <= bundle.len() - at) {
-            at += n;
-            left -= 1;
-        } else {
-            return false;
-        }
+        rest = behind(rest);
     }
-    true
+    rest.is_empty()
 }
 
 // 17 of a bundle of paths.
-pub fn check_split(bundle: &[u8], most: usize) -> u32
-    ensures { result ≡ split_check most bundle.now }
+pub fn check_split(bundle: &[u8], most: usize) -> Result<(), Refusal>
+    ensures { number result ≡ split_check most bundle.now }
 {
     let n = bundle.len();
-    refuse(
-        17,
+    ensure(
         (0 < n) & (n / 4 <= BUNDLE_WORDS) & uses_up(bundle, most),
+        Refusal::WrongFiles,
     )
-}
-
-// Where the file at `at` ends, and the next begins.
-fn next(bundle: &[u8], at: usize) -> usize
-    requires { at ≤ length bundle.now }
-    ensures bundle_value { drop result bundle.now ≡ behind (drop at bundle.now) }
-    ensures within { result ≤ length bundle.now }
-{
-    let n = bytes_in(&bundle[at..]);
-    if n <= bundle.len() - at {
-        at + n
-    } else {
-        bundle.len()
-    }
 }
 
 // The file of an index, the first being 0; empty past the last.
 pub fn file_at(bundle: &[u8], index: usize) -> &[u8]
     ensures { result.now ≡ file_at index bundle.now }
 {
-    let mut at = 0;
-    let mut left = index;
-    while 0 < left {
-        at = next(bundle, at);
-        left -= 1;
+    let mut rest = bundle;
+    for _ in 0..index {
+        rest = behind(rest);
     }
-    file_in(&bundle[at..])
+    file_in(rest)
 }
 
 // How many files there are, as far as `most`.
 pub fn count_files(bundle: &[u8], most: usize) -> usize
     ensures { result ≡ length (split most bundle.now) }
 {
-    let mut at = 0;
-    let mut count = 0;
-    while (count < most) & (at < bundle.len()) {
-        at = next(bundle, at);
-        count += 1;
+    let mut rest = bundle;
+    for count in 0..most {
+        if rest.is_empty() {
+            return count;
+        }
+        rest = behind(rest);
     }
-    count
+    most
 }
