@@ -269,10 +269,6 @@ module _ {ws : List ℕ} {t : ℕ} {follow : List ℕ} where
   pub may_report_as : {w out out' : List ℕ} → MayReport ws t follow w out → length out' ≡ length out → MayReport ws t follow w out'
   may_report_as a h = record { ready = a.ready; room = omega (arith, a.room, h) }
 
-  pub may_report_again : {w w' out out' : List ℕ} {count r : ℕ} (owed : Expr → List ℕ) → MayReport ws t follow w out → Reports ws t follow w out count w' out' r owed
-      → MayReport ws t follow w' out'
-  may_report_again owed a b = record { ready = b.again.ready; room = omega (arith, a.room, b.same) }
-
 pub rows_next : (ws : List ℕ) (i q : ℕ) (e : Expr) → rows_below ws i q e ++ row_at ws i q e ≡ rows_below ws i (q + 1) e
 rows_next ws i q e = rw add-one
 

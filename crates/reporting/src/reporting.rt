@@ -60,10 +60,8 @@ fn report_states(
         (rows_below (words part.now) i (n + 1)) }
 {
     let mut count = start;
-    let mut q = 0;
-    while q <= n {
+    for q in 0..=n {
         count = report_row(part, follow, work, outside, i, q, out, count);
-        q += 1;
     }
     count
 }
@@ -138,10 +136,8 @@ pub fn report_doors(
 {
     let size = part.len() / 4;
     let mut length = start;
-    let mut i = 0;
-    while i < size {
+    for i in 0..size {
         length = report_at(part, follow, work, outside, i, n, out, length);
-        i += 1;
     }
     length
 }

@@ -14,10 +14,6 @@ returns-then-over c =
     let over : reply_words < a.start = omega (arith, c.if-over.true) in
     (over_added (words_at (words a.part.now) a.n a.i) c.requires.0.ready over, runs_over a.work.now a.n a.i a.start over)
 
-pub report_door-requires : goal.report_door-requires
-report_door-requires c =
-    (c.requires.0, door_read (words c.args.part.now) c.args.i c.word_at.ensures c.is_door.ensures c.if-is_door.true, c.requires.1)
-
 pub returns-then-is_door : goal.returns-then-is_door
 returns-then-is_door c =
     let a = c.args in

@@ -1,7 +1,5 @@
 -- `reporting::reporting::report_doors` meets its contract. Assumes nothing.
 use mathlib.Core.Path.{◌≡◌}
-use Prim.Native.Nat.{◌-◌, ◌≤◌}
-use lib.ListN.{length}
 use Rattle.files.specs.Word.{words}
 use Rattle.reporting.specs.Reporting.{Reports, words_below, RunsAt}
 use Rattle.reporting.proofs.reporting.report_doors.Given as goal
@@ -10,7 +8,4 @@ use Rattle.reporting.proofs.reporting.report_doors.Given as goal
 -- the words up to the door that comes next.
 abbrev pub invariant-loop-i : goal.invariant-loop-i
 invariant-loop-i l = Reports (words l.part) l.outside l.follow l.initial.work l.initial.out l.start l.work l.out l.length (words_below (words l.part) l.n l.i)
-    × (l.start ≡ 1 → RunsAt (words l.part) l.outside l.follow l.initial.work l.n l.i l.length) × (l.i ≤ length (words l.part))
-
-abbrev pub decreases-loop-i : goal.decreases-loop-i
-decreases-loop-i l = l.size - l.i
+    × (l.start ≡ 1 → RunsAt (words l.part) l.outside l.follow l.initial.work l.n l.i l.length)

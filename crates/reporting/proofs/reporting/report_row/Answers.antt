@@ -2,15 +2,12 @@
 use borrow.Author.Rules.{rules}
 use native.Mathlib.Omega.{arith}
 use Rattle.files.specs.Word.{words}
-use Rattle.reporting.proofs.Reports.{row_room, row_few, row_added, row_empty}
+use Rattle.reporting.proofs.Reports.{row_few, row_added, row_empty}
 use Rattle.reporting.proofs.reporting.report_row.Goals as goal
 
 pub run-requires : goal.run-requires
 run-requires c =
     (c.seed-top.ensures.begun, c.seed-top.ensures.closed c.args.follow c.requires.0.ready.closed)
-
-pub row_length-pairs-requires : goal.row_length-pairs-requires
-row_length-pairs-requires c = row_room c.run.ensures.begun.laid
 
 pub returns-then-empty : goal.returns-then-empty
 returns-then-empty c =
@@ -18,13 +15,6 @@ returns-then-empty c =
     let p = c.requires in
     row_empty (words a.part.now) a.outside a.i a.q p.0.ready p.1 p.2 c.seed-top.ensures c.run.ensures
     c.row_length-pairs.ensures (omega (arith, c.if-empty.true))
-
-pub write_row-requires : goal.write_row-requires
-write_row-requires c =
-    (row_room c.run.ensures.begun.laid, c.requires.2, omega arith, omega (arith, c.requires.0.room))
-
-pub reset-requires : goal.reset-requires
-reset-requires c = c.run.ensures.begun.laid
 
 pub overflow_add-pairs : goal.overflow_add-pairs
 overflow_add-pairs c =
@@ -35,4 +25,4 @@ returns c =
     let a = c.args in
     let p = c.requires in
     row_added (words a.part.now) a.outside a.i a.q p.0.ready p.1 p.2 c.seed-top.ensures c.run.ensures
-    c.row_length-pairs.ensures (λ e. omega (arith, c.if-empty.false, e)) c.write_row.ensures c.advance.ensures c.reset.ensures (search (c.out-1.given, rules))
+    c.row_length-pairs.ensures (λ e. omega (arith, c.if-empty.false, e)) c.write_row.ensures c.advance.ensures c.reset.ensures (search rules)
