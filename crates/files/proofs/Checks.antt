@@ -13,7 +13,8 @@ use Rattle.sets.proofs.Tests.{either, passed, and_iff, le_iff, eq_iff, same_test
 use Rattle.files.specs.Refuse.{◌then◌, ◌unless◌, room_check}
 use Rattle.files.specs.declared.refusal.Refusal.{Refusal}
 use Rattle.files.specs.declared.refusal.Refusal.TheVariants.{NoRoom, WrongSize, WrongHeader, WrongLength, WrongWord, NotAscending, WrongRoot, LostTarget, WrongOperands, StateTooHigh, WrongCounts, MixedReplies, NodeTwice, Stray, TooLong, WrongGroups, WrongFiles, WrongTriples, Unsaid, NoWalk, WrongDemands}
-use Rattle.files.specs.Refusal.{code}
+use Rattle.std.specs.Prelude.{Result, Ok}
+use Rattle.files.specs.Refusal.{code, number}
 use Rattle.files.specs.Outcome.{Outcome, refused, accepted, outcome, leaves}
 use Rattle.files.specs.Limits.{work_bytes}
 
@@ -129,3 +130,7 @@ code_some WrongTriples h = omega arith
 code_some Unsaid h = omega arith
 code_some NoWalk h = omega arith
 code_some WrongDemands h = omega arith
+
+-- and what is accepted has it
+pub ok_zero : {T : Type 0} {r : Result T Refusal} {x : T} → r ≡ Ok x → number r ≡ 0
+ok_zero e = rw e

@@ -12,7 +12,7 @@ use Rattle.files.specs.Word.{put_word}
 use Rattle.files.specs.Field.{file, header_word}
 use Rattle.files.specs.Refuse.{◌then◌, ◌unless◌, room_check, size_check}
 use Rattle.files.specs.Outcome.{Outcome, refused, accepted, outcome, zeros, left, leaves, left_lent, lent_by, leaves_lent}
-use Rattle.files.proofs.Checks.{checks, then_iff, then_assoc, refused_first, passed_first, outcome_gives, outcome_over}
+use Rattle.files.proofs.Checks.{checks, then_iff, then_assoc, refused_first, passed_first, outcome_gives, outcome_over, code_some, ok_zero}
 use Rattle.files.proofs.Words.{words_length}
 use Rattle.files.specs.Limits.{final_words, work_bytes}
 use Rattle.output.specs.Writer.{Written, Writes, Filed}
@@ -50,7 +50,7 @@ check_also {c} e z f = record { is = passed_first c _ z e f.is }
 pub check_last : {c n : ℕ} → n ≡ c → FirstNumber c [] n
 check_last e = record { is = e }
 
-pub ruleset checking = (checked, check_refuses, check_passes, check_also, check_last)
+pub ruleset checking = (checked, check_refuses, check_passes, check_also, check_last, code_some, ok_zero)
 
 -- What passed checks say
 
@@ -145,6 +145,8 @@ answer_filed x limit result n {k} {out} {r} c z f = rw (← c, z) (by (leb (leng
     by false t =
         let j : r ≡ 15 = f.number ∙ rw t in
         rw (outcome_over limit result (leb-false _ _ t)) (record { number = j; output = λ e. absurd (omega (arith, j)) })
+
+pub ruleset answering = (passed, answer_refused, answer_filed, code_some, ok_zero)
 
 -- The call is settled
 

@@ -1,6 +1,7 @@
 // The first reply, as a call, with groups and without.
 ghost use Rattle.std.specs.Prelude.{◌≡◌, [], ◌∷◌, ◌≤◌, length};
 ghost use Rattle.files.specs.Word.{words};
+ghost use Rattle.files.specs.Refusal.{number};
 ghost use Rattle.files.specs.Outcome.{left, leaves};
 ghost use Rattle.files.specs.Part.{part_check};
 ghost use Rattle.files.specs.Path.{path_check};
@@ -14,7 +15,8 @@ ghost use Rattle.site_first.specs.First.{first_reply_call, first_reply_grouped_c
 use files::buffer::clear;
 use files::field::site;
 use files::limits::REPLY_WORDS;
-use files::refuse::{check_room, refuse};
+use files::refusal::{Refusal, ensure};
+use files::refuse::check_room;
 use files::word::word_at;
 use groups::table::{check_groups, our_groups};
 use output::close::close_at;
@@ -25,23 +27,14 @@ use queries::path::check_path;
 use readers::part::check_part;
 use reporting::reporting::report_doors;
 
-// The number of the first check that fails: the buffers, the part, the groups, the path.
-fn check(part: &[u8], groups: &[u8], path: &[u8], out: usize, work: usize) -> u32
+// The checks in their order: the buffers, the part, the groups, the path.
+fn check(part: &[u8], groups: &[u8], path: &[u8], out: usize, work: usize) -> Result<(), Refusal>
     ensures { Checked reply_words out work
-        (input part_words part.now (part_check (words part.now)) ∷ also (groups_check groups.now) ∷ input path_words path.now (path_check (words path.now)) ∷ []) result }
+        (input part_words part.now (part_check (words part.now)) ∷ also (groups_check groups.now) ∷ input path_words path.now (path_check (words path.now)) ∷ []) (number result) }
 {
-    let room = check_room(REPLY_WORDS, out, work);
-    if room != 0 {
-        return room;
-    }
-    let n = check_part(part);
-    if n != 0 {
-        return n;
-    }
-    let g = check_groups(groups);
-    if g != 0 {
-        return g;
-    }
+    check_room(REPLY_WORDS, out, work)?;
+    check_part(part)?;
+    check_groups(groups)?;
     check_path(path)
 }
 
@@ -69,26 +62,35 @@ pub fn append(
     end
 }
 
-// Writes the reply into a cleared output, as far as it fits. Gives 15 where it is over its limit, and only then.
-fn write(part: &[u8], groups: &[u8], path: &[u8], out: &mut [u8], work: &mut [u8]) -> u32
+// Writes the reply into a cleared output, as far as it fits. Refuses one over its limit, and no other.
+fn write(
+    part: &[u8],
+    groups: &[u8],
+    path: &[u8],
+    out: &mut [u8],
+    work: &mut [u8],
+) -> Result<(), Refusal>
     requires { Passed reply_words (length out.old) (length work.old)
         (input part_words part.now (part_check (words part.now)) ∷ also (groups_check groups.now) ∷ input path_words path.now (path_check (words path.now)) ∷ []) }
-    ensures { Filed reply_words (length out.old) (first_reply (words part.now) (loaded (words groups.now) (words path.now))) out.new result }
+    ensures { Filed reply_words (length out.old) (first_reply (words part.now) (loaded (words groups.now) (words path.now))) out.new (number result) }
 {
     clear(out);
     let end = append(part, groups, path, 0, out, work);
-    refuse(15, end <= REPLY_WORDS)
+    ensure(end <= REPLY_WORDS, Refusal::TooLong)
 }
 
-// The reply, or the number of the check that refuses.
-fn answer(part: &[u8], groups: &[u8], path: &[u8], out: &mut [u8], work: &mut [u8]) -> u32
+// The reply, or the refusal of a check.
+fn answer(
+    part: &[u8],
+    groups: &[u8],
+    path: &[u8],
+    out: &mut [u8],
+    work: &mut [u8],
+) -> Result<(), Refusal>
     ensures { Responds (first_reply_grouped_call (length out.old) (length work.old) part.now groups.now path.now)
-        (length out.old) out.new result }
+        (length out.old) out.new (number result) }
 {
-    let n = check(part, groups, path, out.len(), work.len());
-    if n != 0 {
-        return n;
-    }
+    check(part, groups, path, out.len(), work.len())?;
     write(part, groups, path, out, work)
 }
 
@@ -104,8 +106,8 @@ pub fn first_reply_grouped(
         ≡ leaves (first_reply_grouped_call (length out.old) (length work.old) part.now groups.now path.now)
         (length out.old) (length work.old) }
 {
-    let number = answer(part, groups, path, out, work);
-    settle(number, out, work)
+    let outcome = answer(part, groups, path, out, work);
+    settle(outcome, out, work)
 }
 
 // Without groups: the same with our own.
