@@ -3,10 +3,8 @@
 use mathlib.Core.Path.{◌≡◌, refl, sym, ap, ◌∙◌}
 use mathlib.Core.Bool.{Bool, true, false, not, ◌&&◌, ◌||◌}
 use mathlib.Core.List.{List, [], ◌∷◌, map}
-use Prim.Native.Nat.{ℕ, zero, suc, ◌+◌, ◌-◌, ◌/◌, ◌^◌, ◌≤◌, ◌<◌}
+use Prim.Native.Nat.{ℕ, zero, suc, ◌+◌, ◌-◌, ◌/◌, ◌≤◌, ◌<◌}
 use native.Mathlib.Omega.{arith}
-use mir.Syntax.{w64}
-use mir.Val.{Fits}
 use borrow.Author.Tests.{eq-eqb, ne_eqb}
 use lib.Dec.{eqb}
 use lib.ListN.{length, get_or, drop, length-drop}
@@ -189,12 +187,6 @@ module _ {s : List ℕ} {n x sites start h : ℕ} (f : Heading s n x sites start
           same = rw (at, ← drop-drop, new)
               (sym (apart_more (has_state sites (site_of h)) (differs n h) (stale after (map site_of rest)) (any (differs n) rest) (sym g ∙ t)) ∙ whole);
         }
-
-pub heading_fits : (s : List ℕ) (h : ℕ) {start m : ℕ} → start < length s / 4 → length s < 2 ^ 64 → m ≡ suc (size_of h - 1) → Fits w64 (start + m)
-heading_fits s h p l e = omega arith
-
-pub heading_less : (s : List ℕ) (h : ℕ) {start m : ℕ} → start < length s / 4 → m ≡ suc (size_of h - 1) → length s / 4 - (start + m) < length s / 4 - start
-heading_less s h p e = omega arith
 
 pub heading_last : {s : List ℕ} {n x sites start : ℕ} → Heading s n x sites start → length s / 4 ≤ start → 0 ≡ x
 heading_last {s} {start = start} f h = rw (words_over s start h) at f.same

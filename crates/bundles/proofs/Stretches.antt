@@ -15,7 +15,6 @@ use Rattle.files.specs.Bundle.{files_check}
 use Rattle.bundles.specs.Stretch.{head_check, front_check, kind_in, body_in, files_in}
 use Rattle.files.proofs.Checks.{checks, then_iff, then_assoc, refused_first, passed_first}
 use Rattle.files.proofs.Words.{words_length, words_rest, words_take}
-use Rattle.files.proofs.Reading.{words_over}
 
 -- an accepted header has a word at least, and no more than there are
 sized : (kind n h : ℕ) → head_check kind n h ≡ 0 → (0 < size_of h) × (size_of h ≤ n)
@@ -100,9 +99,6 @@ pub record Bundling (trip : Trip) (x : ℕ) (s : List ℕ) : Type 0 where
   pub same : files_in trip (words s) ≡ x
 
 module _ {trip : Trip} {x : ℕ} {s : List ℕ} (f : Bundling trip x s) where
-  pub bundling_last : length s < 4 → 0 ≡ x
-  bundling_last h = let e : words s ≡ [] = words_over s 0 (omega arith) in rw e at f.same
-
   -- n is the check of the first
   module _ {n : ℕ} (p : 4 ≤ length s) (en : n ≡ front_check (kind_in trip) (body_in trip) (words s)) where
     left : (n then files_in trip (drop (size_of (get_or (words s) 0 0)) (words s))) ≡ x

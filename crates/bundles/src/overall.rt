@@ -30,8 +30,7 @@ fn clashes(sites: u16, n: u32, h: u32) -> bool
 fn step(h: u32) -> usize
     ensures { result ≡ suc (size_of h - 1) }
 {
-    let len = size(h) as usize;
-    if len == 0 { 1 } else { len }
+    size(h).max(1) as usize
 }
 
 // 12: a site twice, or a different n.

@@ -54,6 +54,7 @@ fn seen_next(seen: PartSeen, w: u32) -> PartSeen
     }
 }
 
+// A type of this crate, for the trait of another.
 #[derive(Clone, Copy)]
 struct Reader {
     seen: PartSeen,

@@ -4,11 +4,8 @@ use mathlib.Core.Path.{◌≡◌, refl, ◌∙◌}
 use borrow.Author.Rules.{rules}
 use Rattle.files.specs.Refusal.{code, number}
 use Rattle.files.proofs.Checks.{code_some}
-use Rattle.bundles.proofs.Stretches.{bundling_last, bundling_refused, bundling_within, bundling_less, bundling_more}
+use Rattle.bundles.proofs.Stretches.{bundling_refused, bundling_within, bundling_less, bundling_more}
 use Rattle.bundles.proofs.bundle.check_files.Goals as goal
-
-pub loop-rest-init : goal.loop-rest-init
-loop-rest-init c = record { same = cc }
 
 pub returns-in_err-len : goal.returns-in_err-len
 returns-in_err-len c =
@@ -27,6 +24,3 @@ loop-rest-smaller c = bundling_less c.loop-rest.invariant c.loop-rest-test.true 
 pub loop-rest-preserved : goal.loop-rest-preserved
 loop-rest-preserved c =
     bundling_more c.loop-rest.invariant c.loop-rest-test.true c.in_ok-len.ensures.checked refl c.in_ok-len.ensures.next
-
-pub returns : goal.returns
-returns c = search (bundling_last, rules)
