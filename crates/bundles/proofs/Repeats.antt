@@ -3,10 +3,8 @@
 use mathlib.Core.Path.{◌≡◌, refl, sym, ap, ◌∙◌}
 use mathlib.Core.Bool.{Bool, true, false, not, ◌&&◌, ◌||◌}
 use mathlib.Core.List.{List, [], ◌∷◌, map}
-use Prim.Native.Nat.{ℕ, zero, suc, ◌+◌, ◌-◌, ◌/◌, ◌^◌, ◌≤◌, ◌<◌}
+use Prim.Native.Nat.{ℕ, zero, suc, ◌+◌, ◌-◌, ◌/◌, ◌≤◌, ◌<◌}
 use native.Mathlib.Omega.{arith}
-use mir.Syntax.{w64}
-use mir.Val.{Fits}
 use borrow.Author.Tests.{eq-eqb, ne_eqb}
 use lib.Dec.{eqb}
 use lib.ListN.{length, get_or, drop, length-drop}
@@ -19,16 +17,12 @@ use Rattle.sets.proofs.Cases.{or_swap}
 use Rattle.sets.proofs.Tests.{same_test, eq_iff}
 use Rattle.sets.proofs.StateSets.{has_empty}
 use Rattle.sets.proofs.NodeSets.{nodes_none}
-use Rattle.files.specs.declared.cursor.Cursor.{Cursor}
-use Rattle.files.specs.declared.cursor.Step.{Step}
-use Rattle.files.specs.declared.cursor.Step.TheVariants.{Word, End}
 use Rattle.files.specs.Word.{words}
-use Rattle.files.specs.Read.{read_at}
 use Rattle.files.specs.Outcome.{zeros}
 use Rattle.files.specs.Field.{kind_of, site_of, labels_of, size_of, node_of}
 use Rattle.files.specs.Refuse.{◌unless◌}
 use Rattle.files.specs.Bundle.{headers, headers_check, twice}
-use Rattle.files.proofs.Reading.{taken, ended, words_left, words_over}
+use Rattle.files.proofs.Reading.{words_left, words_over}
 
 -- an element was seen, or stands twice
 abbrev pub stale : (ℕ → Bool) → List ℕ → Bool
@@ -69,39 +63,38 @@ stale_none seen xs h = stale_is seen xs ∙ rw (any_no seen xs h)
 abbrev pub nodes_of : ℕ → List ℕ → List ℕ
 nodes_of k ws = map node_of (filter (λ w. eqb (kind_of w) k) ws)
 
-pub record Repeating (k : ℕ) (s d : List ℕ) (x : Bool) (work : List ℕ) (at : ℕ) : Type 0 where
-  pub same : stale (has_node work 0) (nodes_of k (drop at (words s))) ≡ x
+-- of the words ws that are left
+pub record Repeating (k : ℕ) (d : List ℕ) (x : Bool) (work ws : List ℕ) : Type 0 where
+  pub same : stale (has_node work 0) (nodes_of k ws) ≡ x
   pub long : length work ≡ length d
   pub room : node_set_bytes ≤ length d
 
-pub repeating_first : (k : ℕ) (s : List ℕ) {d : List ℕ} → node_set_bytes ≤ length d → d ≡ zeros (length d) → Repeating k s d (twice (nodes_of k (words s))) d 0
-repeating_first k s {d} h z =
-    record { same = stale_none (has_node d 0) (nodes_of k (words s)) (λ y. nodes_none (length d) 0 y z); long = refl; room = h }
+pub repeating_first : (k : ℕ) {us vs d : List ℕ} → vs ≡ us → node_set_bytes ≤ length d → d ≡ zeros (length d) → Repeating k d (twice (nodes_of k us)) d vs
+repeating_first k {us} {d = d} e h z =
+    record { same = rw e (stale_none (has_node d 0) (nodes_of k us) (λ y. nodes_none (length d) 0 y z)); long = refl; room = h }
 
-module _ {k : ℕ} {s d work : List ℕ} {x : Bool} {at : ℕ} {r : Step} (f : Repeating k s d x work at) (q : r ≡ read_at s at) where
-  -- a word of kind j is read
-  module _ {w j : ℕ} {c : Cursor} (a : r ≡ Word w c) (e : j ≡ kind_of w) where
-    pub repeating_other : (j ≡ k → ⊥) → Repeating k s d x work c.at
-    repeating_other n =
-        let t = taken {s = s} {k = at} a q in
-        record { same = rw (t.left, ne_eqb (kind_of w) k (λ i. n (e ∙ i))) at f.same; long = f.long; room = f.room }
+module _ {k : ℕ} {d work vs : List ℕ} {x : Bool} (f : Repeating k d x work vs) where
+  -- a word of kind j is the next
+  module _ {w j : ℕ} {ws : List ℕ} (a : vs ≡ w ∷ ws) (e : j ≡ kind_of w) where
+    pub repeating_other : (j ≡ k → ⊥) → Repeating k d x work ws
+    repeating_other n = record { same = rw (a, ne_eqb (kind_of w) k (λ i. n (e ∙ i))) at f.same; long = f.long; room = f.room }
 
     module _ {v : ℕ} {b : Bool} (i : j ≡ k) (g : v ≡ node_of w) (o : b ≡ has_node work 0 v) where
-      here : (b || stale (λ y. has_node work 0 y || eqb y v) (nodes_of k (drop c.at (words s)))) ≡ x
-      here = let t = taken {s = s} {k = at} a q in rw (o, g) (rw (t.left, eq-eqb (kind_of w) k (sym e ∙ i)) at f.same)
+      here : (b || stale (λ y. has_node work 0 y || eqb y v) (nodes_of k ws)) ≡ x
+      here = rw (o, g) (rw (a, eq-eqb (kind_of w) k (sym e ∙ i)) at f.same)
 
       pub repeating_found : b ≡ true → true ≡ x
       repeating_found h = rw h at here
 
-      pub repeating_more : {work' : List ℕ} → b ≡ false → Added 0 v work work' → Repeating k s d x work' c.at
+      pub repeating_more : {work' : List ℕ} → b ≡ false → Added 0 v work work' → Repeating k d x work' ws
       repeating_more {work'} h m = record {
-        same = stale_same (has_node work' 0) (λ y. has_node work 0 y || eqb y v) (nodes_of k (drop c.at (words s))) m.has ∙ (rw h at here);
+        same = stale_same (has_node work' 0) (λ y. has_node work 0 y || eqb y v) (nodes_of k ws) m.has ∙ (rw h at here);
         long = m.same ∙ f.long;
         room = f.room;
       }
 
-  pub repeating_last : r ≡ End → false ≡ x
-  repeating_last a = rw (ended {s = s} {k = at} a q).none at f.same
+  pub repeating_last : vs ≡ [] → false ≡ x
+  repeating_last a = rw a at f.same
 
 -- 12: the headers from a start on, and the sites seen before
 
@@ -141,6 +134,14 @@ apart_more true b c d h = cc
 apart_more false true c d h = cc
 apart_more false false c d h = refl
 
+refused_is : (b : Bool) {i : ℕ} → i ≡ (12 unless not b) → (i ≡ 0 → ⊥) → (b ≡ true) × (i ≡ 12)
+refused_is true c z = (refl, c)
+refused_is false c z = absurd (z c)
+
+passed_is : (b : Bool) {i : ℕ} → i ≡ (12 unless not b) → i ≡ 0 → b ≡ false
+passed_is true c z = absurd (omega arith)
+passed_is false c z = refl
+
 pub record Heading (s : List ℕ) (n x sites start : ℕ) : Type 0 where
   pub same : apart (has_state sites) n (headers_of (drop start (words s))) ≡ x
 
@@ -166,28 +167,26 @@ module _ {s : List ℕ} {n x sites start h : ℕ} (f : Heading s n x sites start
       let heads : headers_of (drop start (words s)) ≡ h ∷ rest = rw left (headers_cons h (drop (start + 1) (words s))) in
       ap (apart (has_state sites) n) (sym heads) ∙ f.same
 
-  module _ {b : Bool} (g : b ≡ clashing sites n h) where
-    pub heading_found : b ≡ true → 12 ≡ x
+  -- i is its check
+  module _ {b : Bool} {i : ℕ} (g : b ≡ clashing sites n h) (c : i ≡ (12 unless not b)) where
+    pub heading_found : (i ≡ 0 → ⊥) → i ≡ x
     unfolding clashing
-    heading_found t = apart_found (has_state sites (site_of h)) (differs n h) (stale after (map site_of rest)) (any (differs n) rest) (sym g ∙ t) ∙ whole
+    heading_found z =
+        let (t, o) = refused_is b c z in
+        o ∙ apart_found (has_state sites (site_of h)) (differs n h) (stale after (map site_of rest)) (any (differs n) rest) (sym g ∙ t) ∙ whole
 
-    pub heading_more : {q m sites' : ℕ} → b ≡ false → q ≡ site_of h → ((y : ℕ) → has_state sites' y ≡ (has_state sites y || eqb y q)) → m ≡ suc (size_of h - 1)
+    pub heading_more : {q m sites' : ℕ} → i ≡ 0 → q ≡ site_of h → ((y : ℕ) → has_state sites' y ≡ (has_state sites y || eqb y q)) → m ≡ suc (size_of h - 1)
         → Heading s n x sites' (start + m)
     unfolding clashing
-    heading_more {q} {m} {sites'} t i o j =
+    heading_more {q} {m} {sites'} z e o j =
+        let t = passed_is b c z in
         let at : start + m ≡ start + 1 + (size_of h - 1) = omega arith in
         let new : stale (has_state sites') (map site_of rest) ≡ stale after (map site_of rest)
-        = stale_same (has_state sites') after (map site_of rest) (λ y. o y ∙ rw i) in
+        = stale_same (has_state sites') after (map site_of rest) (λ y. o y ∙ rw e) in
         record {
           same = rw (at, ← drop-drop, new)
               (sym (apart_more (has_state sites (site_of h)) (differs n h) (stale after (map site_of rest)) (any (differs n) rest) (sym g ∙ t)) ∙ whole);
         }
-
-pub heading_fits : (s : List ℕ) (h : ℕ) {start m : ℕ} → start < length s / 4 → length s < 2 ^ 64 → m ≡ suc (size_of h - 1) → Fits w64 (start + m)
-heading_fits s h p l e = omega arith
-
-pub heading_less : (s : List ℕ) (h : ℕ) {start m : ℕ} → start < length s / 4 → m ≡ suc (size_of h - 1) → length s / 4 - (start + m) < length s / 4 - start
-heading_less s h p e = omega arith
 
 pub heading_last : {s : List ℕ} {n x sites start : ℕ} → Heading s n x sites start → length s / 4 ≤ start → 0 ≡ x
 heading_last {s} {start = start} f h = rw (words_over s start h) at f.same

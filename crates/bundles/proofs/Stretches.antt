@@ -1,33 +1,20 @@
--- Laws of a bundle read file by file: the file at the front of a stretch, and the files from a start on.
+-- Laws of a bundle read file by file: the file at the front of a stretch, and the files that are left.
 -- Assumes nothing.
-use mathlib.Core.Path.{◌≡◌, refl, sym, ap, ap₂, ◌∙◌}
+use mathlib.Core.Path.{◌≡◌, refl, sym, ap, ◌∙◌}
 use mathlib.Core.List.{List, [], ◌∷◌}
-use Prim.Native.Nat.{ℕ, zero, suc, ◌+◌, ◌-◌, ◌*◌, ◌/◌, ◌^◌, ◌≤◌, ◌<◌}
+use Prim.Native.Nat.{ℕ, zero, suc, ◌-◌, ◌*◌, ◌/◌, ◌≤◌, ◌<◌}
 use native.Mathlib.Numerals.{sub-one}
 use native.Mathlib.Omega.{arith}
-use borrow.Author.Rules.{part_to_end}
-use mir.Syntax.{w64}
-use mir.Val.{Fits}
-use lib.ListN.{length, get_or, take, drop, length-drop, drop_of_length-le}
-use lib.Seq.{take-nil, drop-drop, get_or-take, length-take-le}
+use lib.ListN.{length, get_or, take, drop, length-drop}
+use lib.Seq.{take-nil, get_or-take, length-take-le}
 use Rattle.bundles.specs.declared.bundle.Trip.{Trip}
-use Rattle.bundles.specs.declared.bundle.Stretch.{Stretch}
-use Rattle.bundles.specs.declared.bundle.Stretch.TheVariants.{Refused, Next}
 use Rattle.files.specs.Word.{words}
 use Rattle.files.specs.Field.{size_of}
 use Rattle.files.specs.Refuse.{◌then◌}
 use Rattle.files.specs.Bundle.{files_check}
-use Rattle.bundles.specs.Stretch.{head_check, front_check, kind_in, body_in, next_or, stretch_of}
+use Rattle.bundles.specs.Stretch.{head_check, front_check, kind_in, body_in, files_in}
 use Rattle.files.proofs.Checks.{checks, then_iff, then_assoc, refused_first, passed_first}
-use Rattle.files.proofs.Words.{words_length, words_drop, words_take}
-
--- for the proof of `next_or`
-pub next_some : (n len : ℕ) → n ≡ 0 → Next len ≡ next_or n len
-next_some n len e = rw e
-
-pub next_refused : (n len : ℕ) → (n ≡ 0 → ⊥) → Refused n ≡ next_or n len
-next_refused zero len z = absurd (z refl)
-next_refused (suc n) len z = refl
+use Rattle.files.proofs.Words.{words_length, words_rest, words_take}
 
 -- an accepted header has a word at least, and no more than there are
 sized : (kind n h : ℕ) → head_check kind n h ≡ 0 → (0 < size_of h) × (size_of h ≤ n)
@@ -44,11 +31,9 @@ module _ (s : List ℕ) (trip : Trip) {h k n : ℕ} (eh : h ≡ get_or (words s)
   head : n ≡ head_check (kind_in trip) (length (words s)) (get_or (words s) 0 0)
   head = rw (words_length s, ← eh, ← ek) en
 
-  pub stretch_refused : (n ≡ 0 → ⊥) → Refused n ≡ stretch_of trip (words s)
-  unfolding stretch_of front_check
-  stretch_refused z =
-      let l : ℕ = size_of (get_or (words s) 0 0) in
-      next_refused n l z ∙ ap (λ m. next_or m l) (refused_first _ _ z head)
+  pub stretch_refused : (n ≡ 0 → ⊥) → n ≡ front_check (kind_in trip) (body_in trip) (words s)
+  unfolding front_check
+  stretch_refused z = refused_first _ _ z head
 
   module _ {len : ℕ} (z : n ≡ 0) (el : len ≡ size_of h) where
     within : (0 < len) × (4 * len ≤ length s)
@@ -57,23 +42,14 @@ module _ (s : List ℕ) (trip : Trip) {h k n : ℕ} (eh : h ≡ get_or (words s)
     pub stretch_taken : 4 * len ≡ length (take (4 * len) s)
     stretch_taken = sym (length-take-le (4 * len) s within.1)
 
-    pub stretch_next : {m : ℕ} {r : Stretch} → m ≡ body_in trip (get_or (words (take (4 * len) s)) 0 0) (drop 1 (words (take (4 * len) s)))
-        → r ≡ next_or m len → r ≡ stretch_of trip (words s)
-    unfolding stretch_of front_check
-    stretch_next {m} em er =
+    pub stretch_next : {m : ℕ} → m ≡ body_in trip (get_or (words (take (4 * len) s)) 0 0) (drop 1 (words (take (4 * len) s)))
+        → m ≡ front_check (kind_in trip) (body_in trip) (words s)
+    unfolding front_check
+    stretch_next {m} em =
         let l : len ≡ size_of (get_or (words s) 0 0) = el ∙ ap size_of eh in
         let b : m ≡ body_in trip (get_or (words s) 0 0) (take (size_of (get_or (words s) 0 0) - 1) (drop 1 (words s)))
         = em ∙ rw (words_take len s, get_or-take len (words s) 0 0 within.0, drop_take len (words s), l) in
-        er ∙ ap₂ next_or (passed_first _ _ z head b) l
-
--- what its answer says
-told_next : (a b n : ℕ) → Next n ≡ next_or a b → (a ≡ 0) × (n ≡ b)
-told_next zero b n e = (refl, cc)
-told_next (suc a) b n e = (cc, cc)
-
-told_refused : (a b n : ℕ) → Refused n ≡ next_or a b → (n ≡ a) × (a ≡ 0 → ⊥)
-told_refused zero b n e = (cc, λ z. let f : ◌≡◌ {A = ℕ} 0 1 = cc in omega arith)
-told_refused (suc a) b n e = (cc, λ z. omega arith)
+        passed_first _ _ z head b
 
 then_same : (a b d : ℕ) → (a ≡ 0 → b ≡ d) → (a then b) ≡ (a then d)
 then_same zero b d h = h refl
@@ -118,60 +94,28 @@ module _ (kind : ℕ) (body : ℕ → List ℕ → ℕ) where
       rw (drop_first_lem (size_of h) h ws (front_sized (h ∷ ws) z).0)
       (turns (length ws) (length (drop (size_of h - 1) ws)) (drop (size_of h - 1) ws) (omega arith) (omega arith)))
 
--- the files from a start on, in words, come to x
-pub record Bundling (s : List ℕ) (trip : Trip) (x start : ℕ) : Type 0 where
-  pub same : files_check (kind_in trip) (body_in trip) (length (drop start (words s))) (drop start (words s)) ≡ x
-  pub within : start ≤ length (words s)
+-- for the proof of `check_files`: of the bytes s that are left, the files come to x
+pub record Bundling (trip : Trip) (x : ℕ) (s : List ℕ) : Type 0 where
+  pub same : files_in trip (words s) ≡ x
 
-pub bundling_first : (s : List ℕ) (trip : Trip) → Bundling s trip (files_check (kind_in trip) (body_in trip) (length (words s)) (words s)) 0
-bundling_first s trip = record { same = refl; within = omega arith }
+module _ {trip : Trip} {x : ℕ} {s : List ℕ} (f : Bundling trip x s) where
+  -- n is the check of the first
+  module _ {n : ℕ} (p : 4 ≤ length s) (en : n ≡ front_check (kind_in trip) (body_in trip) (words s)) where
+    left : (n then files_in trip (drop (size_of (get_or (words s) 0 0)) (words s))) ≡ x
+    left = rw en (sym (files_step (kind_in trip) (body_in trip) (words s) (omega (arith, words_length s))) ∙ f.same)
 
-pub bundling_last : {s : List ℕ} {trip : Trip} {x start : ℕ} → Bundling s trip x start → length s / 4 ≤ start → 0 ≡ x
-bundling_last {s} {start = start} f h = rw (drop_of_length-le (words s) {i = start} (omega (arith, words_length s))) at f.same
+    pub bundling_refused : (n ≡ 0 → ⊥) → n ≡ x
+    bundling_refused z = refused_first _ _ z refl ∙ left
 
--- r is what `read_file` answers, handed the bytes from the start on
-module _ {s : List ℕ} {trip : Trip} {x start : ℕ} {r : Stretch} (f : Bundling s trip x start) (p : start < length s / 4)
-    (e : r ≡ stretch_of trip (words (take (length s - 4 * start) (drop (4 * start) s)))) where
-  abbrev ws : List ℕ
-  ws = drop start (words s)
+    module _ {len : ℕ} (z : n ≡ 0) (el : len ≡ size_of (get_or (words s) 0 0)) where
+      room : (0 < len) × (4 * len ≤ length s)
+      room = let t = front_sized (kind_in trip) (body_in trip) (words s) (sym en ∙ z) in omega (arith, words_length s)
 
-  abbrev front : ℕ
-  front = front_check (kind_in trip) (body_in trip) ws
+      pub bundling_within : 4 * len ≤ length s
+      bundling_within = room.1
 
-  read : r ≡ stretch_of trip ws
-  read = rw (← words_drop start s, ← part_to_end s (4 * start)) e
+      pub bundling_less : length (take (length s - 4 * len) (drop (4 * len) s)) < length s
+      bundling_less = let t = room in omega (arith, length-drop (4 * len) s, length-take-le (length s - 4 * len) (drop (4 * len) s))
 
-  count : length ws ≡ length s / 4 - start
-  count = rw (length-drop, words_length)
-
-  step : (front then files_check (kind_in trip) (body_in trip) (length (drop (size_of (get_or ws 0 0)) ws)) (drop (size_of (get_or ws 0 0)) ws)) ≡ x
-  step = sym (files_step (kind_in trip) (body_in trip) ws (omega (arith, count))) ∙ f.same
-
-  pub bundling_refused : {n : ℕ} → r ≡ Refused n → n ≡ x
-  unfolding stretch_of
-  bundling_refused {n} a =
-      let t = told_refused front (size_of (get_or ws 0 0)) n (sym a ∙ read) in
-      refused_first _ _ (λ z. t.1 (sym t.0 ∙ z)) t.0 ∙ step
-
-  told : {n : ℕ} → r ≡ Next n → (front ≡ 0) × (n ≡ size_of (get_or ws 0 0))
-  unfolding stretch_of
-  told {n} a = told_next front (size_of (get_or ws 0 0)) n (sym a ∙ read)
-
-  -- the next start is further on, and within
-  on : {n : ℕ} → r ≡ Next n → (start < start + n) × (start + n ≤ length s / 4)
-  on a =
-      let t = told a in
-      let z = front_sized (kind_in trip) (body_in trip) ws t.0 in
-      omega (arith, count)
-
-  pub bundling_less : {n : ℕ} → r ≡ Next n → length s / 4 - (start + n) < length s / 4 - start
-  bundling_less a = let b = on a in omega arith
-
-  pub bundling_fits : {n : ℕ} → r ≡ Next n → length s < 2 ^ 64 → Fits w64 (start + n)
-  bundling_fits a l = let b = on a in omega arith
-
-  pub bundling_more : {n : ℕ} → r ≡ Next n → Bundling s trip x (start + n)
-  bundling_more a =
-      let t = told a in
-      let b = on a in
-      record { same = rw (← drop-drop, t.1) (passed_first _ _ t.0 refl refl ∙ step); within = omega (arith, words_length s) }
+      pub bundling_more : Bundling trip x (take (length s - 4 * len) (drop (4 * len) s))
+      bundling_more = record { same = rw (words_rest len s, el) (passed_first _ _ z refl refl ∙ left) }

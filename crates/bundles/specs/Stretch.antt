@@ -1,10 +1,8 @@
 -- Inner. A file read as a stretch of a bundle: what is learnt of it.
-use Rattle.std.specs.Prelude.{ℕ, zero, suc, ◌-◌, Bool, true, not, ◌&&◌, ◌||◌, List, eqb, leb, ltb, length, get_or, take, drop}
+use Rattle.std.specs.Prelude.{ℕ, ◌-◌, Bool, true, not, ◌&&◌, ◌||◌, List, eqb, leb, ltb, length, get_or, take, drop}
 use Rattle.sets.specs.States.{has_state}
 use Rattle.bundles.specs.declared.bundle.Trip.{Trip}
 use Rattle.bundles.specs.declared.bundle.Trip.TheVariants.{First, Second}
-use Rattle.bundles.specs.declared.bundle.Stretch.{Stretch}
-use Rattle.bundles.specs.declared.bundle.Stretch.TheVariants.{Refused, Next}
 use Rattle.files.specs.Field.{site_of, labels_of, size_of}
 use Rattle.files.specs.Refuse.{◌then◌, ◌unless◌, header_check}
 use Rattle.files.specs.Reply as reply
@@ -42,15 +40,6 @@ over_in Second = second_over_check
 
 abbrev pub bundle_in : Trip → List ℕ → ℕ
 bundle_in trip ws = files_in trip ws then over_in trip ws
-
--- what is read of a file: a refusal, or how many words on the next one starts
-abbrev pub next_or : ℕ → ℕ → Stretch
-next_or zero n = Next n
-next_or (suc r) n = Refused (suc r)
-
-unfoldable pub stretch_of : Trip → List ℕ → Stretch
-unfolding front_check
-stretch_of trip ws = next_or (front_check (kind_in trip) (body_in trip) ws) (size_of (get_or ws 0 0))
 
 -- a header whose site was seen, or whose n is another
 unfoldable pub clashing : ℕ → ℕ → ℕ → Bool

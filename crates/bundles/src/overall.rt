@@ -4,6 +4,7 @@ ghost use Rattle.sets.specs.Sets.{filter};
 ghost use Rattle.sets.specs.NodeSet.{node_set_bytes};
 ghost use Rattle.files.specs.Word.{words};
 ghost use Rattle.files.specs.Refuse.{◌unless◌};
+ghost use Rattle.files.specs.Refusal.{number};
 ghost use Rattle.files.specs.Outcome.{zeros};
 ghost use Rattle.files.specs.Field.{kind_of, size_of, node_of};
 ghost use Rattle.files.specs.Reply.{roots};
@@ -11,10 +12,9 @@ ghost use Rattle.files.specs.Bundle.{headers, headers_check, twice};
 ghost use Rattle.bundles.specs.Stretch.{clashing};
 
 use files::buffer::clear;
-use files::cursor::{Cursor, Step};
 use files::field::{kind, labels, node, site, size};
-use files::refuse::refuse;
-use files::word::word_at;
+use files::refusal::{Refusal, ensure};
+use files::word::{Words, word_at};
 use kinds::count::{Mark, count_kind};
 use sets::node_set::{add, has as has_node};
 use sets::states::{has as has_site, with};
@@ -30,13 +30,12 @@ fn clashes(sites: u16, n: u32, h: u32) -> bool
 fn step(h: u32) -> usize
     ensures { result ≡ suc (size_of h - 1) }
 {
-    let len = size(h) as usize;
-    if len == 0 { 1 } else { len }
+    size(h).max(1) as usize
 }
 
 // 12: a site twice, or a different n.
-pub fn check_headers(bundle: &[u8]) -> u32
-    ensures { result ≡ headers_check (headers (length (words bundle.now)) (words bundle.now)) }
+pub fn check_headers(bundle: &[u8]) -> Result<(), Refusal>
+    ensures { number result ≡ headers_check (headers (length (words bundle.now)) (words bundle.now)) }
 {
     let count = bundle.len() / 4;
     let n = labels(word_at(bundle, 0));
@@ -44,55 +43,46 @@ pub fn check_headers(bundle: &[u8]) -> u32
     let mut start = 0;
     while start < count {
         let h = word_at(bundle, start);
-        if clashes(sites, n, h) {
-            return 12;
-        }
+        ensure(!clashes(sites, n, h), Refusal::MixedReplies)?;
         sites = with(sites, site(h));
         start += step(h);
     }
-    0
+    Ok(())
 }
 
 // 7: not one root.
-pub fn check_roots(bundle: &[u8]) -> u32
-    ensures { result ≡ (7 unless eqb (length (roots (words bundle.now))) 1) }
+pub fn check_roots(bundle: &[u8]) -> Result<(), Refusal>
+    ensures { number result ≡ (7 unless eqb (length (roots (words bundle.now))) 1) }
 {
-    refuse(7, count_kind(bundle, 0, 8, Mark::Bit16) == 1)
+    let count = count_kind(bundle, 0, 8, Mark::Bit16);
+    ensure(count == 1, Refusal::WrongRoot)
 }
 
 // Whether a node stands in two words of kind k; the nodes seen are a set in the cleared working buffer.
 fn has_twice(bundle: &[u8], work: &mut [u8], k: u32) -> bool
-    requires node_set_bytes_in_bounds { node_set_bytes ≤ length work.old }
-    requires work_value { work.old ≡ zeros (length work.old) }
-    ensures value { result ≡ twice (map node_of (filter (λ w. eqb (kind_of w) k) (words bundle.now))) }
+    requires room { node_set_bytes ≤ length work.old }
+    requires cleared { work.old ≡ zeros (length work.old) }
+    ensures found { result ≡ twice (map node_of (filter (λ w. eqb (kind_of w) k) (words bundle.now))) }
     ensures work_len_unchanged { length work.new ≡ length work.old }
 {
-    let mut cur = Cursor { at: 0 };
-    loop {
-        match cur.read(bundle) {
-            Step::Word(w, next) => {
-                cur = next;
-                if kind(w) == k {
-                    let x = node(w);
-                    if has_node(work, 0, x) {
-                        return true;
-                    }
-                    add(work, 0, x);
-                }
+    for w in Words::of(bundle) {
+        if kind(w) == k {
+            let x = node(w);
+            if has_node(work, 0, x) {
+                return true;
             }
-            Step::End => {
-                return false;
-            }
+            add(work, 0, x);
         }
     }
+    false
 }
 
 // 13: a node in two words of kind k.
-pub fn check_twice(bundle: &[u8], work: &mut [u8], k: u32) -> u32
+pub fn check_twice(bundle: &[u8], work: &mut [u8], k: u32) -> Result<(), Refusal>
     requires { node_set_bytes ≤ length work.old }
-    ensures value { result ≡ (13 unless not (twice (map node_of (filter (λ w. eqb (kind_of w) k) (words bundle.now))))) }
+    ensures checked { number result ≡ (13 unless not (twice (map node_of (filter (λ w. eqb (kind_of w) k) (words bundle.now))))) }
     ensures work_len_unchanged { length work.new ≡ length work.old }
 {
     clear(work);
-    refuse(13, !has_twice(bundle, work, k))
+    ensure(!has_twice(bundle, work, k), Refusal::NodeTwice)
 }

@@ -1,26 +1,22 @@
--- The check of a first reply, word by word: what a door, row or reach word asks of the words before it, and what it leaves; and that the
+-- The check of a first reply, word by word: what a door, row or reach word asks of the words before it; and that the
 -- doors and the pairs of a row of an accepted one ascend.
 -- Assumes nothing.
 use mathlib.Core.Path.{◌≡◌, refl}
 use mathlib.Core.Logic.{inl, inr}
-use mathlib.Core.Bool.{Bool, true, false, cond, ◌&&◌, ◌||◌}
+use mathlib.Core.Bool.{◌&&◌, ◌||◌}
 use mathlib.Core.List.{List, ◌∷◌}
-use Prim.Native.Nat.{ℕ, suc, ◌+◌, ◌-◌, ◌^◌, ◌≤◌, ◌<◌}
-use native.Mathlib.Numerals.{add-one}
+use Prim.Native.Nat.{ℕ, suc, ◌-◌, ◌^◌, ◌≤◌, ◌<◌}
 use native.Mathlib.Omega.{arith}
 use lib.Dec.{T, eqb, eqb→eq}
-use lib.ListN.{get_or, drop}
 use borrow.Author.Tests.{eqb-true}
 use Rattle.sets.specs.Sets.{Mem, here, there, Ascending}
 use Rattle.sets.proofs.Tests.{either}
-use Rattle.files.specs.Word.{words}
-use Rattle.files.specs.Field.{kind_of, labels_of, node_of, door_root_of, state_of, pair_of, pair_node, pair_state, word_of}
+use Rattle.files.specs.Field.{kind_of, node_of, door_root_of, state_of, pair_of, pair_node, pair_state, word_of}
 use Rattle.files.specs.declared.reply.ReplySeen.{ReplySeen}
-use Rattle.files.specs.Reply.{start, is_door_word, is_row, is_reach, door_check, row_check, reach_check, word_check, end_check, next, scan, reply_check, doors, front, row, rows}
+use Rattle.files.specs.Reply.{start, is_door_word, is_row, is_reach, door_check, row_check, reach_check, word_check, end_check, next, scan, doors, front, row, rows}
 use Rattle.files.proofs.Checks.{checks, then_iff}
 use Rattle.files.proofs.Fields.{holder_made}
 use Rattle.files.proofs.Ordered.{Rising, adds, skips, ends, restarts, scan_checked, scan_rises}
-use Rattle.files.proofs.Scans.{Scanning}
 
 module _ (n : ℕ) (st : ReplySeen) (w : ℕ) (ws : List ℕ) where
   pub door_scan : kind_of w ≡ 8 → door_check st w ≡ 0
@@ -71,33 +67,3 @@ module _ (n : ℕ) where
       | inl d ↦ restarts (rw d (row_rises (pair_state c) (next u v) vs (λ w m. b w (i w (there m))) s))
       | inr d ↦ skips (rw d) (omega arith)
     ]) accepted).1
-
--- The reader: a word's check and what it leaves by the word's kind, and the first turn of its loop.
-
-module _ (n : ℕ) (st : ReplySeen) (w : ℕ) {a : Bool} (ea : a ≡ is_door_word w) where
-  pub word_door : {r : ℕ} → a ≡ true → r ≡ door_check st w → r ≡ word_check n st w
-  word_door h e = rw (← ea, h) e
-
-  module _ {b : Bool} (ha : a ≡ false) (eb : b ≡ is_row w) where
-    pub word_row : {r : ℕ} → b ≡ true → r ≡ row_check n st w → r ≡ word_check n st w
-    word_row h e = rw (← ea, ha, ← eb, h) e
-
-    module _ {c : Bool} (hb : b ≡ false) (ec : c ≡ is_reach w) where
-      pub word_reach : {r : ℕ} → c ≡ true → r ≡ reach_check n st w → r ≡ word_check n st w
-      word_reach h e = rw (← ea, ha, ← eb, hb, ← ec, h) e
-
-      pub word_other : c ≡ false → 5 ≡ word_check n st w
-      word_other h = rw (← ea, ha, ← eb, hb, ← ec, h)
-
-module _ (st : ReplySeen) (w : ℕ) {a : Bool} (ea : a ≡ is_door_word w) where
-  pub next_door : {d : Bool} {x : ℕ} → a ≡ true → x ≡ node_of w → d ≡ door_root_of w
-      → ◌≡◌ {A = ReplySeen} (record { last = w; low = x + 1; state = 0; rooted = st.rooted || d }) (next st w)
-  next_door h ex ed = rw (← ea, h, ex, ed, add-one)
-
-  pub next_other : {b : Bool} {q y : ℕ} → a ≡ false → b ≡ is_row w → q ≡ state_of w → y ≡ cond b (q + 1) st.state
-      → ◌≡◌ {A = ReplySeen} (record { last = w; low = st.low; state = y; rooted = st.rooted }) (next st w)
-  next_other h eb eq ey = rw (← ea, h, ey, eb, eq, add-one)
-
-pub reply_first : (s : List ℕ) {h n : ℕ} → h ≡ get_or (words s) 0 0 → n ≡ labels_of h
-    → Scanning (word_check n) next end_check s (reply_check (get_or (words s) 0 0) (drop 1 (words s))) start 1
-reply_first s e f = record { same = rw (f, e) }

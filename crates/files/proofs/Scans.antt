@@ -44,21 +44,6 @@ module _ {S : Type 0} {check : S → ℕ → ℕ} {next : S → ℕ → S} {end 
   pub scanning_last : {n : ℕ} → r ≡ End → n ≡ end st → n ≡ x
   scanning_last a e = e ∙ (rw (ended {s = s} {k = k} a q).none at f.same)
 
--- whether some word passes a test is whether some word from k on does
-pub record Looking (p : ℕ → Bool) (s : List ℕ) (x : Bool) (k : ℕ) : Type 0 where
-  pub same : any p (drop k (words s)) ≡ x
-
-module _ {p : ℕ → Bool} {s : List ℕ} {x : Bool} {k : ℕ} {r : Step} (f : Looking p s x k) (q : r ≡ read_at s k) where
-  module _ {w : ℕ} {c : Cursor} {b : Bool} (a : r ≡ Word w c) (e : b ≡ p w) where
-    pub looking_found : b ≡ true → true ≡ x
-    looking_found h = let t = taken {s = s} {k = k} a q in rw (← f.same, t.left, ← e, h)
-
-    pub looking_more : b ≡ false → Looking p s x c.at
-    looking_more h = let t = taken {s = s} {k = k} a q in record { same = rw (t.left, ← e, h) at f.same }
-
-  pub looking_last : r ≡ End → false ≡ x
-  looking_last a = rw (← f.same, (ended {s = s} {k = k} a q).none)
-
 -- a test of any element of a list, by index
 pub record Seeking (p : ℕ → Bool) (s : List ℕ) (i : ℕ) : Type 0 where
   pub same : any p (drop i s) ≡ any p s

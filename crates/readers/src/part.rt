@@ -54,6 +54,7 @@ fn seen_next(seen: PartSeen, w: u32) -> PartSeen
     }
 }
 
+// A type of this crate, for the trait of another.
 #[derive(Clone, Copy)]
 struct Reader {
     seen: PartSeen,
@@ -81,7 +82,7 @@ impl Seen for Reader {
     }
 }
 
-// A refusal, or bytes that are a part.
+// Refuses what is no part.
 pub fn check_part(bytes: &[u8]) -> Result<(), Refusal>
     ensures { number result ≡ (size_check part_words bytes.now then part_check (words bytes.now)) }
 {

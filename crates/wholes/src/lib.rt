@@ -1,4 +1,4 @@
-// The readers of a whole plant and of its cut list. Each answers the number of the refusal, 0 where there is none.
+// The readers of a whole plant and of its cut list.
 #![tactic(auto)]
 
 pub mod cuts;

@@ -1,22 +1,16 @@
 -- `wholes::whole::has_lost` meets its contract.
 -- Assumes nothing.
-use borrow.Author.Rules.{rules}
-use mathlib.Core.Path.{refl}
-use Rattle.files.proofs.Reading.{fewer}
-use Rattle.files.proofs.Scans.{looking_found, looking_more, looking_last}
+use Rattle.std.proofs.Common.{rules, tests}
+use Rattle.std.proofs.lemmas.Iterator.Consumers.{YieldsList-from_first}
+use Rattle.std.proofs.lemmas.Iterator.Search.{any_from_yields_List}
+use Rattle.sets.specs.NodeSet.{has_node}
+use Rattle.files.specs.Word.{words}
+use Rattle.files.specs.Read.{left_of}
+use Rattle.files.specs.Part.{lost}
 use Rattle.wholes.proofs.whole.has_lost.Goals as goal
 
-pub loop-w-init : goal.loop-w-init
-loop-w-init c = record { same = refl }
-
-pub returns-then-is_lost : goal.returns-then-is_lost
-returns-then-is_lost c = search (looking_found, rules)
-
-pub loop-w-smaller : goal.loop-w-smaller
-loop-w-smaller c = search (fewer, rules)
-
-pub loop-w-preserved : goal.loop-w-preserved
-loop-w-preserved c = search (looking_more, rules)
-
-pub returns-in-End : goal.returns-in-End
-returns-in-End c = search (looking_last, rules)
+pub returns : goal.returns
+returns c =
+    let p = lost (has_node c.args.work.now 0) in
+    any_from_yields_List p c.any.new.self _ c.any.result c.any.ensures.ran (YieldsList-from_first (λ x. x) left_of {s = c.of.result} (words c.args.bytes.now) c.of.ensures)
+    (λ x b q k. search (rules, tests))
