@@ -21,9 +21,8 @@ pub fn search(whole: &[u8], a: Automaton, work: &mut [u8])
     ensures { (e : Expr) → Automates a e → answer_words (words whole.now) work.new a.accepts (length (words whole.now))
         ≡ map answer_word (answers (drop 1 (words whole.now)) e (map (λ x. pair x 0) (roots (drop 1 (words whole.now))))) }
 {
-    let outside = prepare(whole, a, work);
+    let outside = prepare(whole, &a, work);
     let i = find_kind(whole, 2, Mark::Bit17);
     let top = seed(whole, work, outside, i, 0, 0);
-    let follow = a.follow;
-    run(whole, follow, work, outside, top);
+    run(whole, &a.follow, work, outside, top);
 }

@@ -15,9 +15,9 @@ use slots::tables::{PENDING, PLACE, REACHED};
 
 // Searches from the marked pairs, of which `height` nodes stand on the stack, until no node waits. What an earlier search reached is not
 // entered again. `follow[q]` has what may follow q.
-pub fn run(part: &[u8], follow: [u16; 16], work: &mut [u8], outside: usize, height: usize)
-    requires { Begun (words part.now) outside work.old height × StepClosed (words part.now) follow work.old }
-    ensures { Searched (words part.now) outside follow work.old work.new }
+pub fn run(part: &[u8], follow: &[u16; 16], work: &mut [u8], outside: usize, height: usize)
+    requires { Begun (words part.now) outside work.old height × StepClosed (words part.now) follow.now work.old }
+    ensures { Searched (words part.now) outside follow.now work.old work.new }
 {
     let mut top = height;
     while top != 0 {
@@ -25,7 +25,7 @@ pub fn run(part: &[u8], follow: [u16; 16], work: &mut [u8], outside: usize, heig
         let i = get16(work, PLACE, outside + top) as usize;
         let s = get16(work, PENDING, i);
         put16(work, PENDING, i, 0);
-        let u = follow_all(follow, s);
+        let u = follow_all(*follow, s);
         top = walk(part, work, outside, i, u, top);
     }
 }

@@ -26,13 +26,13 @@ fn is_exit(part: &[u8], x: usize, idle: bool) -> bool
 }
 
 // Takes the marks at position x away, and writes the mask of the edge word there, where a walk may take it.
-fn fill_at(part: &[u8], a: Automaton, work: &mut [u8], x: usize, idle: bool)
+fn fill_at(part: &[u8], a: &Automaton, work: &mut [u8], x: usize, idle: bool)
     requires { (x < part_words) × (work_bytes ≤ length work.old) × (idle ≡ idle_at (words part.now) x) }
-    ensures { Filled (words part.now) (reads a.letters) work.old work.new x }
+    ensures { Filled (words part.now) (reads a.now.letters) work.old work.new x }
 {
     put16(work, REACHED, x, 0);
     if is_exit(part, x, idle) {
-        let m = mask(a, label(word_at(part, x)));
+        let m = mask(*a, label(word_at(part, x)));
         put16(work, MASK, x, m);
         return;
     }
@@ -51,9 +51,9 @@ fn idle_behind(part: &[u8], x: usize, idle: bool) -> bool
     idle
 }
 
-fn fill(part: &[u8], a: Automaton, work: &mut [u8])
+fn fill(part: &[u8], a: &Automaton, work: &mut [u8])
     requires { (length (words part.now) ≤ part_words) × (work_bytes ≤ length work.old) }
-    ensures { AllFilled (words part.now) (reads a.letters) work.old work.new }
+    ensures { AllFilled (words part.now) (reads a.now.letters) work.old work.new }
 {
     let n = part.len() / 4;
     let mut idle = false;
@@ -64,9 +64,9 @@ fn fill(part: &[u8], a: Automaton, work: &mut [u8])
 }
 
 // Makes the tables of an accepted part ready. Gives the number of its outside targets.
-pub fn prepare(part: &[u8], a: Automaton, work: &mut [u8]) -> usize
+pub fn prepare(part: &[u8], a: &Automaton, work: &mut [u8]) -> usize
     requires { (part_check (words part.now) ≡ 0) × (length (words part.now) ≤ part_words) × (work_bytes ≤ length work.old) }
-    ensures { Prepared (words part.now) (reads a.letters) result work.new }
+    ensures { Prepared (words part.now) (reads a.now.letters) result work.new }
 {
     let outside = resolve(part, work);
     fill(part, a, work);

@@ -20,7 +20,7 @@ use part_search::search::{reset, run, seed};
 // stay: what they stand for leads nowhere, and no later search has to enter it again.
 fn report_row(
     part: &[u8],
-    follow: [u16; 16],
+    follow: &[u16; 16],
     work: &mut [u8],
     outside: usize,
     i: usize,
@@ -28,8 +28,8 @@ fn report_row(
     out: &mut [u8],
     start: usize,
 ) -> usize
-    requires { MayReport (words part.now) outside follow work.old out.old × (node_at (words part.now) i ≡ true) × (q < 16) }
-    ensures { Reports (words part.now) outside follow work.old out.old start work.new out.new result
+    requires { MayReport (words part.now) outside follow.now work.old out.old × (node_at (words part.now) i ≡ true) × (q < 16) }
+    ensures { Reports (words part.now) outside follow.now work.old out.old start work.new out.new result
         (row_at (words part.now) i q) }
 {
     let top = seed(part, work, outside, i, q, 0);
@@ -47,7 +47,7 @@ fn report_row(
 // The rows of all states at the door at position i.
 fn report_states(
     part: &[u8],
-    follow: [u16; 16],
+    follow: &[u16; 16],
     work: &mut [u8],
     outside: usize,
     i: usize,
@@ -55,8 +55,8 @@ fn report_states(
     out: &mut [u8],
     start: usize,
 ) -> usize
-    requires { MayReport (words part.now) outside follow work.old out.old × (node_at (words part.now) i ≡ true) × (n ≤ 15) }
-    ensures { Reports (words part.now) outside follow work.old out.old start work.new out.new result
+    requires { MayReport (words part.now) outside follow.now work.old out.old × (node_at (words part.now) i ≡ true) × (n ≤ 15) }
+    ensures { Reports (words part.now) outside follow.now work.old out.old start work.new out.new result
         (rows_below (words part.now) i (n + 1)) }
 {
     let mut count = start;
@@ -77,7 +77,7 @@ fn door_of(w: u32) -> u32
 // promised only where the output is known to hold the words before, and the length is to be right whatever stands there.
 fn report_door(
     part: &[u8],
-    follow: [u16; 16],
+    follow: &[u16; 16],
     work: &mut [u8],
     outside: usize,
     i: usize,
@@ -85,9 +85,9 @@ fn report_door(
     out: &mut [u8],
     start: usize,
 ) -> usize
-    requires { MayReport (words part.now) outside follow work.old out.old × (is_door (get_or (words part.now) i 0) ≡ true) × (n ≤ 15) }
-    ensures { Reports (words part.now) outside follow work.old out.old start work.new out.new result
-        (door_at (words part.now) n i) × DoorAdds (words part.now) outside follow work.old n i start result }
+    requires { MayReport (words part.now) outside follow.now work.old out.old × (is_door (get_or (words part.now) i 0) ≡ true) × (n ≤ 15) }
+    ensures { Reports (words part.now) outside follow.now work.old out.old start work.new out.new result
+        (door_at (words part.now) n i) × DoorAdds (words part.now) outside follow.now work.old n i start result }
 {
     let w = door_of(word_at(part, i));
     push(out, REPLY_WORDS, start, w);
@@ -98,7 +98,7 @@ fn report_door(
 // The word at position i, where it is a door. Nothing is searched once the reply is over its limit.
 fn report_at(
     part: &[u8],
-    follow: [u16; 16],
+    follow: &[u16; 16],
     work: &mut [u8],
     outside: usize,
     i: usize,
@@ -106,9 +106,9 @@ fn report_at(
     out: &mut [u8],
     start: usize,
 ) -> usize
-    requires { MayReport (words part.now) outside follow work.old out.old × (n ≤ 15) }
-    ensures { Reports (words part.now) outside follow work.old out.old start work.new out.new result
-        (words_at (words part.now) n i) × RunsPast (words part.now) outside follow work.old n i start result }
+    requires { MayReport (words part.now) outside follow.now work.old out.old × (n ≤ 15) }
+    ensures { Reports (words part.now) outside follow.now work.old out.old start work.new out.new result
+        (words_at (words part.now) n i) × RunsPast (words part.now) outside follow.now work.old n i start result }
 {
     let over = REPLY_WORDS < start;
     if over {
@@ -123,15 +123,15 @@ fn report_at(
 // All doors. From 1, the header's word, `length` is before each door the count of the reply's words up to there.
 pub fn report_doors(
     part: &[u8],
-    follow: [u16; 16],
+    follow: &[u16; 16],
     work: &mut [u8],
     outside: usize,
     n: u32,
     out: &mut [u8],
     start: usize,
 ) -> usize
-    requires { MayReport (words part.now) outside follow work.old out.old × (n ≤ 15) }
-    ensures { Reports (words part.now) outside follow work.old out.old start work.new out.new result
+    requires { MayReport (words part.now) outside follow.now work.old out.old × (n ≤ 15) }
+    ensures { Reports (words part.now) outside follow.now work.old out.old start work.new out.new result
         (words_below (words part.now) n (length (words part.now))) }
 {
     let size = part.len() / 4;

@@ -1,12 +1,12 @@
 -- The called pairs in the code: the calls by position beside the nodes by position, the check of their doors, and the seeds. Assumes nothing.
 use mathlib.Core.Path.{◌≡◌, refl, sym, ◌∙◌, ap, subst}
 use mathlib.Core.Logic.{◌↔◌, ⊎_elim}
-use mathlib.Core.Bool.{Bool, true, false, not, ◌&&◌}
+use mathlib.Core.Bool.{Bool, true, false, not}
 use mathlib.Core.List.{List, [], ◌∷◌, map}
 use Prim.Native.Nat.{ℕ, zero, suc, ◌+◌, ◌^◌, ◌≤◌, ◌<◌}
 use native.Mathlib.Omega.{arith}
-use borrow.Author.Tests.{eq-eqb, eqb-true, leb-true, leb-false}
-use lib.Dec.{eqb, leb}
+use borrow.Author.Tests.{eq-eqb, eqb-true}
+use lib.Dec.{eqb}
 use lib.ListN.{length, get_or, drop}
 use Rattle.sets.specs.Sets.{Mem, here, there, Ascending, member, any}
 use Rattle.sets.proofs.Cases.{and_left, and_right, and_intro, clash, lt_or_le, eq_or_ne, not_elim}
@@ -15,7 +15,7 @@ use Rattle.sets.proofs.Sets.{filter_iff, member_iff}
 use Rattle.sets.proofs.Lengths.{mem_at, at_mem}
 use Rattle.sets.proofs.Filter.{any_iff, all_iff, map_iff, not_member_iff}
 use Rattle.files.specs.Field.{door_of, labels_of, pair, pair_of, pair_node, pair_state}
-use Rattle.files.specs.Refuse.{◌then◌, ◌unless◌, header_check}
+use Rattle.files.specs.Refuse.{◌unless◌, header_check}
 use Rattle.files.specs.Part.{nodes, doors, part_check}
 use Rattle.files.specs.Calls.{call_check, calls_check}
 use Rattle.files.proofs.Fields.{holder_made, pair_eta}
@@ -26,7 +26,7 @@ use Rattle.slots.proofs.Places.{node_below, node_in, in_node, nodes_rise, with_i
 use Rattle.part_search.specs.Search.{Begun, StepClosed, Blank, Marks, Seeded}
 use Rattle.slots.proofs.Storing.{kept_refl, kept_trans}
 use Rattle.part_search.proofs.Seeding.{marks_none, marks_same, closed_blank}
-use Rattle.site_calls.specs.Against.{called_in, against_check}
+use Rattle.site_calls.specs.Against.{called_in}
 use Rattle.site_calls.specs.Called.{call_at, holds_at, shut_at, Advanced, SeededAt, SeededAll}
 
 -- the called pairs of a part are those of the call list whose nodes the part has
@@ -88,26 +88,8 @@ holds_made ws i x n e = and_intro (node_at ws i) (eqb (number ws i) x) n (eq-eqb
 pub record Below (ws : List ℕ) (from x i : ℕ) : Type 0 where
   pub below : (j : ℕ) → from ≤ j → j < i → node_at ws j ≡ true → number ws j < x
 
-pub below_none : (ws : List ℕ) (from x : ℕ) → Below ws from x from
-below_none ws from x = record { below = λ j a b. absurd (omega arith) }
-
-module _ {ws : List ℕ} {from x i n : ℕ} {b : Bool} (e : b ≡ node_at ws i) (f : n ≡ number ws i) (s : Below ws from x i) where
-  pub below_more : (b && leb x n) ≡ false → Below ws from x (i + 1)
-  below_more t = record {
-    below = λ j a l h.
-        ⊎_elim (λ (q : j ≡ i). ⊎_elim (λ k. absurd (clash (and_intro b (leb x n) (e ∙ subst (λ y. node_at ws y ≡ true) q h) k) t))
-        (λ k. omega (arith, leb-false x n k, ap (number ws) q)) (either (leb x n)))
-        (λ d. s.below j a (omega (arith, d)) h) (eq_or_ne j i);
-  }
-
-  pub advanced_here : (b && leb x n) ≡ true → Advanced ws from x i
-  advanced_here t = record {
-    below = s.below;
-    stop = λ l. (sym e ∙ and_left b (leb x n) t, omega (arith, leb-true x n (and_right b (leb x n) t)));
-  }
-
-pub advanced_end : {ws : List ℕ} {from x i : ℕ} → length ws ≤ i → Below ws from x i → Advanced ws from x i
-advanced_end h s = record { below = s.below; stop = λ l. absurd (omega arith) }
+pub advanced_end : {ws : List ℕ} {from x i n : ℕ} → n ≤ i → length ws ≤ n → Below ws from x i → Advanced ws from x n
+advanced_end b h s = record { below = λ j a l. s.below j a (omega arith); stop = λ l. absurd (omega arith) }
 
 -- ---- both, side by side
 
@@ -156,9 +138,6 @@ pub record Checking (ws cs : List ℕ) (at k : ℕ) : Type 0 where
   pub past : Past ws cs at k
   pub opened : (l : ℕ) → 1 ≤ l → l < k → Mem (pair_node (call_at cs l)) (nodes ws) → Mem (pair_node (call_at cs l)) (doors (drop 1 ws))
 
-pub checking_none : (ws cs : List ℕ) → Checking ws cs 0 1
-checking_none ws cs = record { past = past_none ws cs; opened = λ l a b. absurd (omega arith) }
-
 abbrev strays : List ℕ → List ℕ → Bool
 strays ws cs = any (λ c. not (member (pair_node c) (doors (drop 1 ws)))) (called_in (drop 1 ws) (drop 1 cs))
 
@@ -202,11 +181,6 @@ checking_all {ws} {cs} {at} {k} p h s = sym ((unless_iff 14 (not (strays ws cs))
     (member_iff (pair_node c) (doors (drop 1 ws))).1 (subst (λ c. Mem (pair_node c) (doors (drop 1 ws))) e
     (s.opened l a (omega arith) (subst (λ c. Mem (pair_node c) (nodes ws)) (sym e) (rw (nodes_same ws p) at n)))))))
 
--- 12 before it
-pub against_is : (ws ps cs : List ℕ) {n a b lc lp wc wp : ℕ} → n ≡ (a then b) → a ≡ (12 unless eqb lc lp) → lc ≡ labels_of wc → lp ≡ labels_of wp
-    → wc ≡ get_or cs 0 0 → wp ≡ get_or ps 0 0 → b ≡ (14 unless not (strays ws cs)) → n ≡ against_check ws ps cs
-against_is ws ps cs e f g h i j k = e ∙ rw (f, g, h, i, j, k)
-
 -- ---- the seeds
 
 pub seed_node : (ws : List ℕ) (i x : ℕ) {b : Bool} → b ≡ holds_at ws i x → b ≡ true → node_at ws i ≡ true
@@ -224,11 +198,6 @@ module _ {ws : List ℕ} {t : ℕ} {w : List ℕ} {i x c : ℕ} {b : Bool} (h : 
         closed = s.closed;
         marks = λ ds m. rw k (subst (λ y. Marks ws w' (y ∷ ds)) z (s.marks ds m));
       }
-
-  pub seeded_no : {top : ℕ} → b ≡ false → Begun ws t w top → SeededAt ws t w w i c top
-  seeded_no e s =
-      let k : holds_at ws i (pair_node c) ≡ false = ap (holds_at ws i) (sym node) ∙ sym h ∙ e in
-      record { kept = kept_refl ws t w; begun = s; closed = λ follow h. h; marks = λ ds m. rw k m }
 
 -- the called pairs before k are marked, and no others
 pub record Calling (ws cs : List ℕ) (t : ℕ) (w w' : List ℕ) (at k top : ℕ) : Type 0 where

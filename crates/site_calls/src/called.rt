@@ -48,14 +48,12 @@ fn advance(part: &[u8], from: usize, x: u32) -> usize
     ensures { Advanced (words part.now) from x result }
 {
     let n = part.len() / 4;
-    let mut i = from;
-    while i < n {
+    for i in from..n {
         if is_node(part, i) & (x <= number_at(part, i)) {
             return i;
         }
-        i += 1;
     }
-    i
+    n
 }
 
 // 14: a called node of the part is no door. Calls and nodes ascend, so the position in the part only moves forward.
@@ -66,14 +64,12 @@ fn check_doors(part: &[u8], calls: &[u8]) -> u32
 {
     let n = calls.len() / 4;
     let mut at = 0;
-    let mut k = 1;
-    while k < n {
+    for k in 1..n {
         let x = call_node(calls, k);
         at = advance(part, at, x);
         if shut(part, at, x) {
             return 14;
         }
-        k += 1;
     }
     0
 }
@@ -116,12 +112,10 @@ pub fn seed_called(part: &[u8], calls: &[u8], work: &mut [u8], outside: usize) -
     let n = calls.len() / 4;
     let mut at = 0;
     let mut top = 0;
-    let mut k = 1;
-    while k < n {
+    for k in 1..n {
         let x = call_node(calls, k);
         at = advance(part, at, x);
         top = seed_call(part, calls, work, outside, at, k, top);
-        k += 1;
     }
     top
 }

@@ -53,10 +53,9 @@ pub fn append(
         (first_reply (words part.now) (loaded (words groups.now) (words path.now))) out.new result }
 {
     let a = position_automaton(path, groups);
-    let outside = prepare(part, a, work);
-    let follow = a.follow;
+    let outside = prepare(part, &a, work);
     let n = a.letters.n;
-    let end = report_doors(part, follow, work, outside, n, out, at + 1);
+    let end = report_doors(part, &a.follow, work, outside, n, out, at + 1);
     let s = site(word_at(part, 0));
     close_at(7, s, n % 16, REPLY_WORDS, at, end, out);
     end

@@ -22,8 +22,7 @@ pub fn search(part: &[u8], calls: &[u8], a: Automaton, work: &mut [u8])
     ensures { (e : Expr) → Automates a e → answer_words (words part.now) work.new a.accepts (length (words part.now))
         ≡ map answer_word (answers (drop 1 (words part.now)) e (called_in (drop 1 (words part.now)) (drop 1 (words calls.now)))) }
 {
-    let outside = prepare(part, a, work);
+    let outside = prepare(part, &a, work);
     let top = seed_called(part, calls, work, outside);
-    let follow = a.follow;
-    run(part, follow, work, outside, top);
+    run(part, &a.follow, work, outside, top);
 }

@@ -1,14 +1,9 @@
 -- `old::search::search` meets its contract. Assumes nothing.
-use borrow.Author.Rules.{rules}
 use native.Mathlib.Omega.{arith}
 use Rattle.files.specs.Word.{words}
-use Rattle.files.proofs.Parts.{whole_part}
 use Rattle.part_search.proofs.Seeding.{closed_blank}
 use Rattle.old.proofs.RootSearch.{root_is, root_node, root_answers}
 use Rattle.old.proofs.search.search.Goals as goal
-
-pub prepare-outside-requires : goal.prepare-outside-requires
-prepare-outside-requires c = (whole_part (words c.args.whole.now) c.requires.0, c.requires.1, search rules)
 
 pub seed-top-requires : goal.seed-top-requires
 seed-top-requires c =

@@ -30,21 +30,21 @@ below g =
 turn : (c : After-walk-top)
     → let ws = words c.args.part.now in
     Kept ws c.args.outside c.args.work.now c.walk-top.new.work
-    × Turned (length ws) (Step ws c.args.work.now c.args.follow) (is_reached c.args.work.now) (is_reached c.loop-top.work) (is_pending ws c.loop-top.work)
+    × Turned (length ws) (Step ws c.args.work.now c.args.follow.now) (is_reached c.args.work.now) (is_reached c.loop-top.work) (is_pending ws c.loop-top.work)
     (is_reached c.walk-top.new.work) (is_pending ws c.walk-top.new.work)
 turn c =
     let ws = words c.args.part.now in
-    let kept = pop_kept ws c.args.outside c.args.follow c.args.work.now c.loop-top.work c.put16.new.work c.loop-top.top c.get16-i.result c.requires.0.laid
+    let kept = pop_kept ws c.args.outside c.args.follow.now c.args.work.now c.loop-top.work c.put16.new.work c.loop-top.top c.get16-i.result c.requires.0.laid
     c.loop-top.invariant.0 (omega (arith, c.loop-top-test.true)) c.loop-top.invariant.2 c.get16-i.ensures c.put16.ensures in (
       kept_trans kept c.walk-top.ensures.walked.grown.kept,
-      turned ws c.args.outside c.args.follow c.args.work.now c.loop-top.work c.put16.new.work c.loop-top.top c.get16-i.result c.requires.0.laid
+      turned ws c.args.outside c.args.follow.now c.args.work.now c.loop-top.work c.put16.new.work c.loop-top.top c.get16-i.result c.requires.0.laid
           c.loop-top.invariant.0 (omega (arith, c.loop-top-test.true)) c.loop-top.invariant.2 c.get16-i.ensures c.put16.ensures
           c.walk-top.new.work c.get16-s.result c.follow_all-u.result c.get16-s.ensures (omega (arith, c.get16-s.type_inv)) c.follow_all-u.ensures c.walk-top.ensures.walked c.loop-top.invariant.1,
     )
 
 pub loop-top-init : goal.loop-top-init
 loop-top-init c =
-    (kept_refl (words c.args.part.now) c.args.outside c.args.work.now, turn_start (words c.args.part.now) c.args.outside c.args.work.now c.args.follow c.args.height c.requires.0 c.requires.1, c.requires.0.stack)
+    (kept_refl (words c.args.part.now) c.args.outside c.args.work.now, turn_start (words c.args.part.now) c.args.outside c.args.work.now c.args.follow.now c.args.height c.requires.0 c.requires.1, c.requires.0.stack)
 
 pub overflow_add-outside : goal.overflow_add-outside
 overflow_add-outside c = omega (arith, room (goal.at.overflow_add-outside c).In-loop-top)
@@ -55,15 +55,15 @@ get16-i-requires c = omega (arith, room (goal.at.get16-i-requires c).In-loop-top
 pub walk-top-requires : goal.walk-top-requires
 walk-top-requires c =
     let ws = words c.args.part.now in
-    let k = pop_kept ws c.args.outside c.args.follow c.args.work.now c.loop-top.work c.put16.new.work c.loop-top.top c.get16-i.result c.requires.0.laid
+    let k = pop_kept ws c.args.outside c.args.follow.now c.args.work.now c.loop-top.work c.put16.new.work c.loop-top.top c.get16-i.result c.requires.0.laid
     c.loop-top.invariant.0 (room (goal.at.walk-top-requires c).In-loop-top).3 c.loop-top.invariant.2 c.get16-i.ensures c.put16.ensures in record {
       laid = (
         laid_kept k c.requires.0.laid,
         below (goal.at.walk-top-requires c).After-get16-i,
-        pop_node ws c.args.outside c.args.follow c.args.work.now c.loop-top.work c.put16.new.work c.loop-top.top c.get16-i.result c.requires.0.laid
+        pop_node ws c.args.outside c.args.follow.now c.args.work.now c.loop-top.work c.put16.new.work c.loop-top.top c.get16-i.result c.requires.0.laid
             c.loop-top.invariant.0 (room (goal.at.walk-top-requires c).In-loop-top).3 c.loop-top.invariant.2 c.get16-i.ensures c.put16.ensures,
       );
-      waiting = pop_stack ws c.args.outside c.args.follow c.args.work.now c.loop-top.work c.put16.new.work c.loop-top.top c.get16-i.result c.requires.0.laid
+      waiting = pop_stack ws c.args.outside c.args.follow.now c.args.work.now c.loop-top.work c.put16.new.work c.loop-top.top c.get16-i.result c.requires.0.laid
           c.loop-top.invariant.0 (room (goal.at.walk-top-requires c).In-loop-top).3 c.loop-top.invariant.2 c.get16-i.ensures c.put16.ensures;
     }
 
@@ -75,5 +75,5 @@ loop-top-preserved c = ((turn (goal.at.loop-top-preserved c).After-walk-top).0, 
 
 pub returns : goal.returns
 returns c =
-    turn_end (words c.args.part.now) c.args.outside c.args.follow c.args.work.now c.loop-top.work c.loop-top.top c.requires.0.laid c.loop-top.invariant.0
+    turn_end (words c.args.part.now) c.args.outside c.args.follow.now c.args.work.now c.loop-top.work c.loop-top.top c.requires.0.laid c.loop-top.invariant.0
     c.loop-top-test.false c.loop-top.invariant.2 c.loop-top.invariant.1

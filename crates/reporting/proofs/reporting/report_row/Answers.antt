@@ -7,7 +7,7 @@ use Rattle.reporting.proofs.reporting.report_row.Goals as goal
 
 pub run-requires : goal.run-requires
 run-requires c =
-    (c.seed-top.ensures.begun, c.seed-top.ensures.closed c.args.follow c.requires.0.ready.closed)
+    (c.seed-top.ensures.begun, c.seed-top.ensures.closed c.args.follow.now c.requires.0.ready.closed)
 
 pub returns-then-empty : goal.returns-then-empty
 returns-then-empty c =

@@ -1,11 +1,8 @@
 -- `site_calls::called::check_doors` meets its contract. Assumes nothing.
 use native.Mathlib.Omega.{arith}
 use Rattle.files.proofs.Words.{words_length}
-use Rattle.site_calls.proofs.Calling.{checking_none, checking_more, checking_refused, checking_all}
+use Rattle.site_calls.proofs.Calling.{checking_more, checking_refused, checking_all}
 use Rattle.site_calls.proofs.called.check_doors.Goals as goal
-
-pub loop-k-init : goal.loop-k-init
-loop-k-init c = checking_none _ _
 
 pub returns-then-shut : goal.returns-then-shut
 returns-then-shut c =

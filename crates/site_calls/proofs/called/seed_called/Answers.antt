@@ -13,8 +13,5 @@ loop-k-preserved c =
     calling_more c.requires.0 (omega (arith, words_length c.args.calls.now)) c.call_node-x.ensures.0 c.call_node-x.ensures.1 c.loop-k.invariant
     c.advance-at.ensures c.seed_call-top.ensures
 
-pub shape_of-work : goal.shape_of-work
-shape_of-work c = c.loop-k.invariant.kept.long
-
 pub returns : goal.returns
 returns c = calling_all (omega (arith, words_length c.args.calls.now)) c.loop-k.invariant

@@ -9,10 +9,6 @@ use Rattle.expressions.specs.Labels.{expr_of}
 use Rattle.site_second.proofs.Replying.{reply_filed}
 use Rattle.site_second.proofs.call.write.Goals as goal
 
-pub close-requires : goal.close-requires
-close-requires c =
-    search (rules, c.requires.room)
-
 pub returns : goal.returns
 returns c =
     let args = c.args in
