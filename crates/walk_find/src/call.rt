@@ -27,7 +27,7 @@ use output::settle::settle;
 use paths::automaton::{Automaton, position_automaton};
 use slots::layout::node_position;
 use slots::position::is_stopped;
-use walk_choice::choosing::write_links;
+use walk_choice::choosing::Rows;
 use walk_distances::rounds::measure;
 use walk_links::links::link;
 use whole_queries::asked::check as check_inputs;
@@ -62,7 +62,12 @@ fn write(whole: &[u8], a: Automaton, root: usize, links: u16, out: &mut [u8], wo
         → Filed walk_words (length out.old) (walk_file (links_by (words whole.now) work.now e root links)) out.new result }
 {
     clear(out);
-    let count = write_links(whole, a, work, root, links, out, 1);
+    let rows = Rows {
+        whole,
+        automaton: a,
+        work,
+    };
+    let count = rows.write_links(root, links, out, 1);
     close(0, 0, 0, WALK_WORDS, count, out)
 }
 
