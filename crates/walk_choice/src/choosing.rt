@@ -23,67 +23,69 @@ use slots::position::is_edge;
 use walk_links::tables::{MASK, TARGET};
 use walk_rows::rows::having;
 
-// Whether the edge word at x takes a state to one that has the number v, where u has what may follow the states at hand.
-#[tactic(auto, using(slots::proofs::Places::edge_below))]
-fn opens(whole: &[u8], a: Automaton, work: &[u8], x: usize, u: u16, v: u16) -> bool
-    requires linked { Linked (words whole.now) a work.now }
-    requires edge { (edge_at (words whole.now) x ≡ true) × (0 < v) }
-    ensures { (e : Expr) → Automates a e → (s : ℕ) → Follows a.follow s u → result ≡ opening (words whole.now) work.now e (states_of s) v (get_or (words whole.now) x 0) }
-{
-    let m = u & get16(work, 0, 16 * x + MASK);
-    if m == 0 {
-        return false;
-    }
-    let t = get16(work, 0, 16 * x + TARGET) as usize;
-    m & having(work, t, v) != 0
+// A whole, and in the working buffer the rows of its edge words for the automaton.
+#[derive(Clone, Copy)]
+pub struct Rows<'a> {
+    pub whole: &'a [u8],
+    pub automaton: Automaton,
+    pub work: &'a [u8],
 }
 
-// The position of the first edge word of the node at i that opens.
-fn first_open(whole: &[u8], a: Automaton, work: &[u8], i: usize, u: u16, v: u16) -> Option<usize>
-    requires linked { Linked (words whole.now) a work.now }
-    requires node { (node_at (words whole.now) i ≡ true) × (0 < v) }
-    ensures behind { IfSome result (λ x. Behind (words whole.now) i x) }
-    ensures first_open { (e : Expr) → Automates a e → (s : ℕ) → Follows a.follow s u → FirstOpen (words whole.now) work.now e (states_of s) v i result }
-{
-    for x in i + 1..whole.len() / 4 {
-        if !is_edge(whole, x) {
-            return None;
+impl Rows<'_> {
+    // Whether the edge word at x takes a state to one that has the number v, where u has what may follow the states at hand.
+    #[tactic(auto, using(slots::proofs::Places::edge_below))]
+    fn opens(&self, x: usize, u: u16, v: u16) -> bool
+        requires linked { Linked (words self.now.whole.now) self.now.automaton self.now.work.now }
+        requires edge { (edge_at (words self.now.whole.now) x ≡ true) × (0 < v) }
+        ensures { (e : Expr) → Automates self.now.automaton e → (s : ℕ) → Follows self.now.automaton.follow s u → result ≡ opening (words self.now.whole.now) self.now.work.now e (states_of s) v (get_or (words self.now.whole.now) x 0) }
+    {
+        let m = u & get16(self.work, 0, 16 * x + MASK);
+        if m == 0 {
+            return false;
         }
-        if opens(whole, a, work, x, u, v) {
-            return Some(x);
-        }
+        let t = get16(self.work, 0, 16 * x + TARGET) as usize;
+        m & having(self.work, t, v) != 0
     }
-    None
-}
 
-// Writes d links from the node at `root` behind `start` words; hands back how many words there are then.
-pub fn write_links(
-    whole: &[u8],
-    a: Automaton,
-    work: &[u8],
-    root: usize,
-    d: u16,
-    out: &mut [u8],
-    start: usize,
-) -> usize
-    requires linked { Linked (words whole.now) a work.now }
-    requires root { (node_at (words whole.now) root ≡ true) × (4 * walk_words ≤ length out.old) }
-    ensures { (e : Expr) → Automates a e → Writes walk_words (length out.old) out.old start out.new result
-        (choose holds (runs_in (drop 1 (words whole.now))) (drop 1 (words whole.now)) e (near (words whole.now) work.now) d
-        (number (words whole.now) root) (0 ∷ [])) }
-{
-    let follow = a.follow;
-    let mut i = root;
-    let mut s: u16 = 1;
-    let mut n = start;
-    for left in (1..=d).rev() {
-        let u = follow_all(follow, s);
-        let Some(x) = first_open(whole, a, work, i, u, left) else {
-            return n;
-        };
-        n = push(out, WALK_WORDS, n, word_at(whole, x));
-        s = u & get16(work, 0, 16 * x + MASK);
-        i = get16(work, 0, 16 * x + TARGET) as usize;
+    // The position of the first edge word of the node at i that opens.
+    fn first_open(&self, i: usize, u: u16, v: u16) -> Option<usize>
+        requires linked { Linked (words self.now.whole.now) self.now.automaton self.now.work.now }
+        requires node { (node_at (words self.now.whole.now) i ≡ true) × (0 < v) }
+        ensures behind { IfSome result (λ x. Behind (words self.now.whole.now) i x) }
+        ensures first_open { (e : Expr) → Automates self.now.automaton e → (s : ℕ) → Follows self.now.automaton.follow s u → FirstOpen (words self.now.whole.now) self.now.work.now e (states_of s) v i result }
+    {
+        for x in i + 1..self.whole.len() / 4 {
+            if !is_edge(self.whole, x) {
+                return None;
+            }
+            if self.opens(x, u, v) {
+                return Some(x);
+            }
+        }
+        None
     }
-    n
+
+    // Writes d links from the node at `root` behind `start` words; hands back how many words there are then.
+    pub fn write_links(&self, root: usize, d: u16, out: &mut [u8], start: usize) -> usize
+        requires linked { Linked (words self.now.whole.now) self.now.automaton self.now.work.now }
+        requires root { (node_at (words self.now.whole.now) root ≡ true) × (4 * walk_words ≤ length out.old) }
+        ensures { (e : Expr) → Automates self.now.automaton e → Writes walk_words (length out.old) out.old start out.new result
+            (choose holds (runs_in (drop 1 (words self.now.whole.now))) (drop 1 (words self.now.whole.now)) e (near (words self.now.whole.now) self.now.work.now) d
+            (number (words self.now.whole.now) root) (0 ∷ [])) }
+    {
+        let follow = self.automaton.follow;
+        let mut i = root;
+        let mut s: u16 = 1;
+        let mut n = start;
+        for left in (1..=d).rev() {
+            let u = follow_all(follow, s);
+            let Some(x) = self.first_open(i, u, left) else {
+                return n;
+            };
+            n = push(out, WALK_WORDS, n, word_at(self.whole, x));
+            s = u & get16(self.work, 0, 16 * x + MASK);
+            i = get16(self.work, 0, 16 * x + TARGET) as usize;
+        }
+        n
+    }
 }

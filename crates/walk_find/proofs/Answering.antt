@@ -4,9 +4,10 @@ use mathlib.Core.Logic.{inl, inr}
 use mathlib.Core.Bool.{Bool, true, false, not, ◌||◌}
 use mathlib.Core.List.{List, [], ◌∷◌}
 use mathlib.Core.Option.{none, some}
-use Prim.Native.Nat.{ℕ, zero, suc, ◌-◌}
+use Prim.Native.Nat.{ℕ}
 use native.Mathlib.Nat.{pos_of_ne-zero}
 use native.Mathlib.Omega.{arith}
+use Rattle.std.specs.Prelude.{Option, Some, None}
 use borrow.Author.Tests.{eqb-true, eq-eqb}
 use lib.Dec.{eqb}
 use lib.ListN.{get_or, drop}
@@ -41,6 +42,7 @@ use Rattle.walk_links.proofs.Running.{runs_at}
 use Rattle.walk_distances.specs.Rounds.{Reached}
 use Rattle.walk_find.specs.Walk.{found_walk, listed_check, file_of, walk_grouped_call}
 use Rattle.walk_find.specs.Measured.{links_by, Measured}
+use Rattle.walk_find.specs.declared.call.Best.{Best}
 use Rattle.walk_find.proofs.Calls.{answered, grouped_checks, grouped_is}
 
 -- a walk stays on nodes
@@ -79,16 +81,15 @@ module _ (ws : List ℕ) (y : ℕ) (ok : whole_check ws ≡ 0) (a : Automaton) (
   halted s path h =
       stopped_root holds (runs_in (drop 1 ws)) ws ok (expr_of (drop 1 path)) h.small y (number ws root) (one_root ws ok root f) (root_runs ws ok root f ∙ ap not s)
 
-  -- so 20
-  none_20 : (path w : List ℕ) (d : ℕ) → found_walk ws path y ≡ none → Measured ws path y w 20 root d
-  none_20 path w d i = record { number_is = ap listed_check (sym i); found = λ z. absurd (omega arith) }
+  no_walk : (path w : List ℕ) → found_walk ws path y ≡ none → Measured ws path y w None
+  no_walk path w i = record { none = λ z. i; some = λ b z. cc }
 
   module _ {i : ℕ} {b : Bool} (p : PositionOf ws y i) (s : b ≡ stopped_at ws root) where
     -- the node is none of the file, or the root is stopped
-    pub unwalked : (w : List ℕ) → (eqb i 0 || b) ≡ true → (path : List ℕ) → Automates a (expr_of (drop 1 path)) → Measured ws path y w 20 root 0
+    pub unwalked : (w : List ℕ) → (eqb i 0 || b) ≡ true → (path : List ℕ) → Automates a (expr_of (drop 1 path)) → Measured ws path y w None
     unwalked w t path h = elim (either (eqb i 0)) [
-      | inl z ↦ none_20 path w 0 (stranger (subst (PositionOf ws y) (eqb-true i 0 z) p) path h)
-      | inr z ↦ none_20 path w 0 (halted (sym s ∙ (rw z at t)) path h)
+      | inl z ↦ no_walk path w (stranger (subst (PositionOf ws y) (eqb-true i 0 z) p) path h)
+      | inr z ↦ no_walk path w (halted (sym s ∙ (rw z at t)) path h)
     ]
 
     pub walks_on : (eqb i 0 || b) ≡ false → (node_at ws i ≡ true) × (number ws i ≡ y) × (stopped_at ws root ≡ false)
@@ -97,28 +98,27 @@ module _ (ws : List ℕ) (y : ℕ) (ok : whole_check ws ≡ 0) (a : Automaton) (
         let (n, q) = p.some (pos_of_ne-zero (λ e. clash (eq-eqb i 0 e) z)) in
         (n, q, sym s ∙ k)
 
-  module _ (i : ℕ) (w : List ℕ) {r : ℕ} (q : number ws i ≡ y) (s : stopped_at ws root ≡ false)
+  module _ (i : ℕ) (w : List ℕ) {r : Option ℕ} (q : number ws i ≡ y) (s : stopped_at ws root ≡ false)
       (reached : (e : Expr) → Automates a e → Reached ws e (number ws i) w (number ws root) r) (path : List ℕ) (h : Automates a (expr_of (drop 1 path))) where
     told : Reached ws (expr_of (drop 1 path)) y w (number ws root) r
     told = subst (λ y. Reached ws (expr_of (drop 1 path)) y w (number ws root) r) q (reached (expr_of (drop 1 path)) h)
 
     -- nothing arrives from the root
-    pub unreached : r ≡ 0 → Measured ws path y w 20 root 0
+    pub unreached : r ≡ None → Measured ws path y w None
     unfolding found_walk
-    unreached z = none_20 path w 0 (by_table_none holds (runs_in (drop 1 ws)) ws ok (expr_of (drop 1 path)) h.small y (number ws root) (one_root ws ok root f)
-        told.last _ told.round (told.ended z) (sym told.number_is ∙ z))
+    unreached z = no_walk path w (by_table_none holds (runs_in (drop 1 ws)) ws ok (expr_of (drop 1 path)) h.small y (number ws root) (one_root ws ok root f)
+        told.last _ told.round (told.none z).1 (told.none z).0)
 
-    by_links : (r ≡ 0 → ⊥) → found_walk ws path y ≡ some (links_by ws w (expr_of (drop 1 path)) root (r - 1))
+    by_links : (d : ℕ) → r ≡ Some d → found_walk ws path y ≡ some (links_by ws w (expr_of (drop 1 path)) root d)
     unfolding found_walk
-    by_links n = by_table holds (runs_in (drop 1 ws)) ws ok (expr_of (drop 1 path)) h.small y (number ws root) (one_root ws ok root f) told.last _ told.round
-        (passed (root_runs ws ok root f ∙ ap not s)) (r - 1) (sym told.number_is ∙ less r n)
+    by_links d z = by_table holds (runs_in (drop 1 ws)) ws ok (expr_of (drop 1 path)) h.small y (number ws root) (one_root ws ok root f) told.last _ told.round
+        (passed (root_runs ws ok root f ∙ ap not s)) d (told.some d z)
+
+    pub measured : (d : ℕ) → r ≡ Some d → Measured ws path y w (Some (record { root = root; links = d }))
+    measured d z = record { none = λ n. cc; some = λ b n. subst (λ b. found_walk ws path y ≡ some (links_by ws w (expr_of (drop 1 path)) b.root b.links)) (same n) (by_links d z) }
       where
-        less : (r : ℕ) → (r ≡ 0 → ⊥) → r ≡ suc (r - 1)
-        less zero n = absurd (n refl)
-        less (suc r) n = omega arith
-
-    pub measured : (r ≡ 0 → ⊥) → Measured ws path y w 0 root (r - 1)
-    measured n = record { number_is = ap listed_check (sym (by_links n)); found = λ z. by_links n }
+        same : {b : Best} → ◌≡◌ {A = Option Best} (Some (record { root = root; links = d })) (Some b) → record { root = root; links = d } ≡ b
+        same n = cc
 
 -- the call
 module _ (n m : ℕ) (whole groups path : List ℕ) (y : ℕ) where
@@ -137,11 +137,16 @@ module _ (n m : ℕ) (whole groups path : List ℕ) (y : ℕ) where
     passed_is : walk_grouped_call n m whole groups path y ≡ answered 0 (found_walk (words whole) (loaded (words groups) (words path)) y)
     passed_is = grouped_is n m whole groups path y ∙ ap (λ k. answered k (found_walk (words whole) (loaded (words groups) (words path)) y)) all_zero
 
-    module _ {w : List ℕ} {k root d : ℕ} (t : Measured (words whole) (loaded (words groups) (words path)) y w k root d) where
-      pub answers_20 : (out : List ℕ) → (k ≡ 0 → ⊥) → Responds (walk_grouped_call n m whole groups path y) n out k
-      answers_20 out h = rw passed_is (answer_refused _ walk_words _ n out t.number_is h)
+    abbrev loads : List ℕ
+    loads = loaded (words groups) (words path)
 
-      pub answers_filed : {out : List ℕ} {r : ℕ} → k ≡ 0
-          → Filed walk_words n (walk_file (links_by (words whole) w (expr_of (drop 1 (loaded (words groups) (words path)))) root d)) out r
-          → Responds (walk_grouped_call n m whole groups path y) n out r
-      answers_filed {out} {r} z f = rw passed_is (answer_filed _ walk_words _ n t.number_is z (subst (λ o. Filed walk_words n (file_of o) out r) (sym (t.found z)) f))
+    -- 20
+    pub answers_20 : {w : List ℕ} → Measured (words whole) loads y w None → (out : List ℕ) → Responds (walk_grouped_call n m whole groups path y) n out 20
+    answers_20 t out = rw passed_is (answer_refused _ walk_words _ n out (ap listed_check (sym (t.none refl))) (λ z. omega arith))
+
+    pub answers_filed : {w : List ℕ} {b : Best} → Measured (words whole) loads y w (Some b) → {out : List ℕ} {r : ℕ}
+        → Filed walk_words n (walk_file (links_by (words whole) w (expr_of (drop 1 loads)) b.root b.links)) out r
+        → Responds (walk_grouped_call n m whole groups path y) n out r
+    answers_filed {b = b} t {out} {r} f =
+        let i = t.some b refl in
+        rw passed_is (answer_filed _ walk_words _ n (ap listed_check (sym i)) refl (subst (λ o. Filed walk_words n (file_of o) out r) (sym i) f))

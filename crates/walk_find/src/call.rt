@@ -1,5 +1,5 @@
 // The calls for the walk beside a listed node.
-ghost use Rattle.std.specs.Prelude.{◌≡◌, true, List, [], ◌∷◌, ℕ, length, drop};
+ghost use Rattle.std.specs.Prelude.{◌≡◌, true, List, [], ◌∷◌, ℕ, length, drop, IfSome};
 ghost use Rattle.files.specs.Word.{words};
 ghost use Rattle.files.specs.Outcome.{left, leaves};
 ghost use Rattle.files.specs.Part.{whole_check};
@@ -27,48 +27,32 @@ use output::settle::settle;
 use paths::automaton::{Automaton, position_automaton};
 use slots::layout::node_position;
 use slots::position::is_stopped;
-use walk_choice::choosing::write_links;
+use walk_choice::choosing::Rows;
 use walk_distances::rounds::measure;
 use walk_links::links::link;
 use whole_queries::asked::check as check_inputs;
 
-// The number of the checks; and where all passed, the root's position and how many links the walk has.
+// Where the best walk starts, and how many links it has.
 #[derive(Clone, Copy)]
-pub struct Verdict {
-    pub number: u32,
+pub struct Best {
     pub root: usize,
     pub links: u16,
 }
 
-// 20: measures the distances to the node, and refuses if it has no walk from the root.
-fn find(whole: &[u8], a: Automaton, node: u32, out: &mut [u8], work: &mut [u8]) -> Verdict
+// Measures the distances to the node: how the best walk goes from the root, if one does.
+fn find(whole: &[u8], a: Automaton, node: u32, out: &mut [u8], work: &mut [u8]) -> Option<Best>
     requires { Measurable (words whole.now) work.old out.old × ((e : Expr) × Automates a e) }
-    ensures by_index { (path : List ℕ) → Automates a (expr_of (drop 1 path)) → Measured (words whole.now) path node work.new result.number result.root result.links }
-    ensures edged { result.number ≡ 0 → Edged (words whole.now) a work.new × (node_at (words whole.now) result.root ≡ true) }
+    ensures measured { (path : List ℕ) → Automates a (expr_of (drop 1 path)) → Measured (words whole.now) path node work.new result }
+    ensures edged { IfSome result (λ best. Edged (words whole.now) a work.new × (node_at (words whole.now) best.root ≡ true)) }
 {
     link(whole, a, work, out);
     let root = find_kind(whole, 2, Mark::Bit17);
     let i = node_position(whole, out, node);
     if (i == 0) | is_stopped(whole, root) {
-        return Verdict {
-            number: 20,
-            root,
-            links: 0,
-        };
+        return None;
     }
-    let r = measure(whole, a, work, out, i, root);
-    if r == 0 {
-        return Verdict {
-            number: 20,
-            root,
-            links: 0,
-        };
-    }
-    Verdict {
-        number: 0,
-        root,
-        links: r - 1,
-    }
+    let links = measure(whole, a, work, out, i, root)?;
+    Some(Best { root, links })
 }
 
 // Writes the file of the walk that the distances choose.
@@ -78,11 +62,16 @@ fn write(whole: &[u8], a: Automaton, root: usize, links: u16, out: &mut [u8], wo
         → Filed walk_words (length out.old) (walk_file (links_by (words whole.now) work.now e root links)) out.new result }
 {
     clear(out);
-    let count = write_links(whole, a, work, root, links, out, 1);
+    let rows = Rows {
+        whole,
+        automaton: a,
+        work,
+    };
+    let count = rows.write_links(root, links, out, 1);
     close(0, 0, 0, WALK_WORDS, count, out)
 }
 
-// The walk, or 20, of accepted inputs.
+// The walk of accepted inputs, or 20 where the node has none from the root.
 fn show(whole: &[u8], groups: &[u8], path: &[u8], node: u32, out: &mut [u8], work: &mut [u8]) -> u32
     requires { Passed walk_words (length out.old) (length work.old)
         (input shown_words whole.now (whole_check (words whole.now)) ∷ also (groups_check groups.now) ∷ input path_words path.now (path_check (words path.now)) ∷ []) }
@@ -90,12 +79,10 @@ fn show(whole: &[u8], groups: &[u8], path: &[u8], node: u32, out: &mut [u8], wor
         (length out.old) out.new result }
 {
     let a = position_automaton(path, groups);
-    let verdict = find(whole, a, node, out, work);
-    let k = verdict.number;
-    if k != 0 {
-        return k;
+    match find(whole, a, node, out, work) {
+        Some(best) => write(whole, a, best.root, best.links, out, work),
+        None => 20,
     }
-    write(whole, a, verdict.root, verdict.links, out, work)
 }
 
 // The walk, or the number of the check that refuses.

@@ -1,11 +1,13 @@
 // The rows of edge words: where each leads, in which states it may be entered, and the edge word before it that leads there too, so that the edges into
 // a node are found from the last of them on.
-ghost use Rattle.std.specs.Prelude.{◌≡◌, true, not, ◌&&◌, ℕ, ◌+◌, ◌<◌, length, get_or};
+ghost use Rattle.std.specs.Prelude.{◌≡◌, true, not, ◌&&◌, ℕ, ◌+◌, ◌*◌, ◌≤◌, ◌<◌, length, get_or};
 ghost use Rattle.sets.specs.States.{has_state};
 ghost use Rattle.files.specs.Word.{words};
 ghost use Rattle.files.specs.Field.{label_of};
+ghost use Rattle.files.specs.Part.{whole_check};
 ghost use Rattle.paths.specs.Letters.{reads};
-ghost use Rattle.slots.specs.Slots.{edge_at, stopped_at};
+ghost use Rattle.slots.specs.Slots.{node_at, edge_at, stopped_at, number};
+ghost use Rattle.slots.specs.Layout.{Owned};
 ghost use Rattle.walk_links.specs.Tables.{Measurable, Linking, Edged, Indexed, Blank};
 
 use crate::tables::{HEADS, MASK, NEXT, TARGET};
@@ -28,12 +30,20 @@ fn entry_mask(whole: &[u8], a: Automaton, x: usize, t: usize) -> u16
     mask(a, label(word_at(whole, x)))
 }
 
+// The position of the target of the edge word at x, which the whole has.
+fn target_position(whole: &[u8], out: &[u8], x: usize) -> usize
+    requires { (whole_check (words whole.now) ≡ 0) × (2 * length (words whole.now) ≤ length out.now) × Owned (words whole.now) out.now × (edge_at (words whole.now) x ≡ true) }
+    ensures { (node_at (words whole.now) result ≡ true) × (number (words whole.now) result ≡ number (words whole.now) x) }
+{
+    node_position(whole, out, number_at(whole, x))
+}
+
 // Writes the row of the edge word at x.
 fn link_edge(whole: &[u8], a: Automaton, work: &mut [u8], out: &mut [u8], x: usize)
     requires { Measurable (words whole.now) work.old out.old × Linking (words whole.now) a work.old out.old x × (edge_at (words whole.now) x ≡ true) }
     ensures { Linking (words whole.now) a work.new out.new (x + 1) }
 {
-    let t = node_position(whole, out, number_at(whole, x));
+    let t = target_position(whole, out, x);
     let m = entry_mask(whole, a, x, t);
     let last = get16(out, HEADS, t);
     put16(work, 0, 16 * x + TARGET, t as u16);

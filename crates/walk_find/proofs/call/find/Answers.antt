@@ -1,7 +1,6 @@
 -- `call::find` meets its contract. Assumes nothing.
 use mathlib.Core.Path.{◌≡◌}
 use mathlib.Core.Bool.{true, false}
-use borrow.Author.Rules.{rules}
 use native.Mathlib.Omega.{arith}
 use Rattle.files.specs.Word.{words}
 use Rattle.files.proofs.Parts.{whole_part}
@@ -10,6 +9,7 @@ use Rattle.walk_find.proofs.Answering.{root_node, unwalked, walks_on, unreached,
 use Rattle.walk_find.proofs.call.find.Goals.{Else-i-is_stopped}
 use Rattle.walk_find.proofs.call.find.Goals as goal
 
+-- the node has a position, and the root runs
 on : (s : Else-i-is_stopped) → let ws = words s.args.whole.now in
     (node_at ws s.node_position-i.result ≡ true) × (number ws s.node_position-i.result ≡ s.args.node)
     × (stopped_at ws s.find_kind-root.result ≡ false)
@@ -21,45 +21,28 @@ pub node_position-i-requires : goal.node_position-i-requires
 node_position-i-requires c =
     (whole_part (words c.args.whole.now) c.requires.0.accepted, omega (arith, c.requires.0.few, c.requires.0.holds, c.link.auto), c.link.ensures.1.owned)
 
-pub returns-then-i-is_stopped : goal.returns-then-i-is_stopped
-returns-then-i-is_stopped c = record {
-  by_index = unwalked (words c.args.whole.now) c.args.node c.requires.0.accepted c.args.a _ c.find_kind-root.ensures c.node_position-i.ensures
-      c.is_stopped.ensures _ c.if-i-is_stopped.true;
-  edged = (λ z. absurd (omega arith));
-}
+pub returns-then-i-is_stopped-clause-measured : goal.returns-then-i-is_stopped-clause-measured
+returns-then-i-is_stopped-clause-measured c =
+    unwalked (words c.args.whole.now) c.args.node c.requires.0.accepted c.args.a _ c.find_kind-root.ensures c.node_position-i.ensures
+    c.is_stopped.ensures _ c.if-i-is_stopped.true
 
-pub measure-r-requires : goal.measure-r-requires
-measure-r-requires c =
-    let link = c.link in
-    let node = (on (goal.at.measure-r-requires c).Else-i-is_stopped).0 in
-    let root = root_node (words c.args.whole.now) c.requires.0.accepted _ c.find_kind-root.ensures in record {
-      ready = (
-        record {
-          measurable = record {
-            accepted = c.requires.0.accepted;
-            few = c.requires.0.few;
-            works = omega (arith, c.requires.0.works, link.auto.work, link.auto.out);
-            holds = omega (arith, c.requires.0.holds, link.auto.work, link.auto.out);
-          };
-          edged = link.ensures.0;
-          indexed = link.ensures.1;
-        },
-        link.ensures.2,
-        c.requires.1,
-      );
-      i_value = (search rules, search rules);
-    }
+pub measure-requires-clause-nodes : goal.measure-requires-clause-nodes
+measure-requires-clause-nodes c = (
+  (on (goal.at.measure-requires-clause-nodes c).Else-i-is_stopped).0,
+  root_node (words c.args.whole.now) c.requires.0.accepted _ c.find_kind-root.ensures,
+)
 
-pub returns-then-r-eq0 : goal.returns-then-r-eq0
-returns-then-r-eq0 c = record {
-  by_index = (λ path h. unreached (words c.args.whole.now) c.args.node c.requires.0.accepted c.args.a _ c.find_kind-root.ensures _ _ (on (goal.at.returns-then-r-eq0 c).Else-i-is_stopped).1 (on (goal.at.returns-then-r-eq0 c).Else-i-is_stopped).2 c.measure-r.ensures.reached
-      path h c.if-r-eq0.true);
-  edged = (λ z. absurd (omega arith));
-}
+pub returns-in_err-links-clause-measured : goal.returns-in_err-links-clause-measured
+returns-in_err-links-clause-measured c =
+    let (_, asked, runs) = on (goal.at.returns-in_err-links-clause-measured c).Else-i-is_stopped in
+    rw c.from_residual.ensures (λ path h. unreached (words c.args.whole.now) c.args.node c.requires.0.accepted c.args.a _ c.find_kind-root.ensures _ _
+    asked runs c.measure.ensures.reached path h c.in_err-links.was)
 
 pub returns : goal.returns
-returns c = record {
-  by_index = (λ path h. measured (words c.args.whole.now) c.args.node c.requires.0.accepted c.args.a _ c.find_kind-root.ensures _ _ (on (goal.at.returns c).Else-i-is_stopped).1 (on (goal.at.returns c).Else-i-is_stopped).2 c.measure-r.ensures.reached
-      path h c.if-r-eq0.false);
-  edged = (λ z. (c.measure-r.ensures.edged, root_node (words c.args.whole.now) c.requires.0.accepted _ c.find_kind-root.ensures));
-}
+returns c =
+    let (_, asked, runs) = on (goal.at.returns c).Else-i-is_stopped in
+    record {
+      measured = λ path h. measured (words c.args.whole.now) c.args.node c.requires.0.accepted c.args.a _ c.find_kind-root.ensures _ _
+          asked runs c.measure.ensures.reached path h _ c.in_ok-links.was;
+      edged = (c.measure.ensures.edged, root_node (words c.args.whole.now) c.requires.0.accepted _ c.find_kind-root.ensures);
+    }

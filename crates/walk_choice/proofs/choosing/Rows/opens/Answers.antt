@@ -1,8 +1,8 @@
--- `walk_choice::choosing::opens` meets its contract. Assumes nothing.
+-- `walk_choice::choosing::Rows::opens` meets its contract. Assumes nothing.
 use borrow.Author.Rules.{rules}
 use mathlib.Core.Path.{refl}
 use Rattle.walk_choice.proofs.Picking.{opens_row, opens_none, opens_some}
-use Rattle.walk_choice.proofs.choosing.opens.Goals as goal
+use Rattle.walk_choice.proofs.choosing.Rows.opens.Goals as goal
 
 pub returns-then-m-eq0 : goal.returns-then-m-eq0
 returns-then-m-eq0 c = λ e h s f. opens_none _ _ _ _ c.requires.linked.accepted (c.requires.linked.edged _ c.requires.edge.0) _ e h s f _ _ c.get16.ensures c.if-m-eq0.true

@@ -1,4 +1,4 @@
--- `walk_choice::choosing::first_open` meets its contract. Assumes nothing.
+-- `walk_choice::choosing::Rows::first_open` meets its contract. Assumes nothing.
 use Prim.Native.Nat.{◌≤◌}
 use native.Mathlib.Omega.{arith}
 use lib.ListN.{length}
@@ -7,7 +7,7 @@ use mathlib.Core.Path.{sym, ◌∙◌}
 use Rattle.files.proofs.Words.{words_length}
 use Rattle.slots.proofs.Places.{node_below}
 use Rattle.walk_choice.proofs.Picking.{passing_none, passing_behind, passing_found, passing_more, passing_last, front_end, front_other}
-use Rattle.walk_choice.proofs.choosing.first_open.Goals as goal
+use Rattle.walk_choice.proofs.choosing.Rows.first_open.Goals as goal
 
 pub overflow_step-x : goal.overflow_step-x
 overflow_step-x c = omega (arith, node_below _ _ c.requires.node.0)
@@ -28,5 +28,5 @@ loop-x-preserved c = passing_more c.loop-x.invariant (sym c.is_edge.ensures ∙ 
 
 pub returns-clause-first_open : goal.returns-clause-first_open
 returns-clause-first_open c =
-    let ends : length (words c.args.whole.now) ≤ c.loop-x.x = omega (arith, words_length c.args.whole.now, c.loop-x-test.false) in
+    let ends : length (words c.args.self.now.whole.now) ≤ c.loop-x.x = omega (arith, words_length c.args.self.now.whole.now, c.loop-x-test.false) in
     passing_last c.loop-x.invariant (front_end _ _ ends)

@@ -1,8 +1,8 @@
--- `walk_choice::choosing::write_links` meets its contract. Assumes nothing.
+-- `walk_choice::choosing::Rows::write_links` meets its contract. Assumes nothing.
 use borrow.Author.Rules.{rules}
 use native.Mathlib.Omega.{arith}
 use Rattle.walk_choice.proofs.Picking.{found_edge, writing_none, writing_last, writing_stop, states_move, writing_more}
-use Rattle.walk_choice.proofs.choosing.write_links.Goals as goal
+use Rattle.walk_choice.proofs.choosing.Rows.write_links.Goals as goal
 
 pub loop-left-init : goal.loop-left-init
 loop-left-init c = writing_none _ _ _ _ _ _ _ c.requires.root.0
