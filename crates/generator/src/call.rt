@@ -9,6 +9,7 @@ ghost use Rattle.edge_draws.specs.Bounds.{Within};
 ghost use Rattle.generator.specs.Generate.{generated, spent, bounds_check, generate_call};
 
 use crate::nodes::write_nodes;
+use draws::generator::Generator;
 use edge_draws::edges::MOST_EDGES;
 use files::buffer::clear;
 use files::limits::PART_WORDS;
@@ -41,37 +42,27 @@ fn check(nodes: u32, edges: u32, out: usize, work: usize) -> u32
     check_bounds(nodes, edges)
 }
 
-// A number, and the state that the caller gets back.
-#[derive(Clone, Copy)]
-pub struct Drawn {
-    pub number: u32,
-    pub state: u32,
-}
-
 // Writes the file. It is not over its limit, so the number is 0.
-fn write(state: u32, nodes: u32, edges: u32, out: &mut [u8]) -> Drawn
+fn write(generator: &mut Generator, nodes: u32, edges: u32, out: &mut [u8]) -> u32
     requires { Within nodes edges × (4 * part_words ≤ length out.old) }
-    ensures { Filed part_words (length out.old) (generated (drawn state) nodes edges) out.new result.number
-        × (result.state ≡ spent state nodes edges) }
+    ensures { Filed part_words (length out.old) (generated (drawn generator.old.state) nodes edges) out.new result
+        × (generator.new.state ≡ spent generator.old.state nodes edges) }
 {
     clear(out);
-    let p = write_nodes(state, nodes, edges, out, 1);
-    Drawn {
-        number: close(1, 0, 0, PART_WORDS, p.count, out),
-        state: p.state,
-    }
+    let count = write_nodes(generator, nodes, edges, out, 1);
+    close(1, 0, 0, PART_WORDS, count, out)
 }
 
 // The file, or the number of the check that refuses, which leaves the state unmoved.
-fn answer(state: u32, nodes: u32, edges: u32, out: &mut [u8], work: usize) -> Drawn
-    ensures { Responds (generate_call (length out.old) work state nodes edges) (length out.old) out.new result.number
-        × (result.state ≡ lent_by (generate_call (length out.old) work state nodes edges) state (spent state nodes edges)) }
+fn answer(generator: &mut Generator, nodes: u32, edges: u32, out: &mut [u8], work: usize) -> u32
+    ensures { Responds (generate_call (length out.old) work generator.old.state nodes edges) (length out.old) out.new result
+        × (generator.new.state ≡ lent_by (generate_call (length out.old) work generator.old.state nodes edges) generator.old.state (spent generator.old.state nodes edges)) }
 {
     let number = check(nodes, edges, out.len(), work);
     if number != 0 {
-        return Drawn { number, state };
+        return number;
     }
-    write(state, nodes, edges, out)
+    write(generator, nodes, edges, out)
 }
 
 // Generates a whole file from the lent state.
@@ -80,8 +71,8 @@ pub fn generate(state: &mut u32, nodes: u32, edges: u32, out: &mut [u8], work: &
         ≡ leaves_lent (generate_call (length out.old) (length work.old) state.old nodes edges)
         state.old (spent state.old nodes edges) (length out.old) (length work.old) }
 {
-    let before = *state;
-    let drawn = answer(before, nodes, edges, out, work.len());
-    *state = drawn.state;
-    settle(drawn.number, out, work)
+    let mut generator = Generator { state: *state };
+    let number = answer(&mut generator, nodes, edges, out, work.len());
+    *state = generator.state;
+    settle(number, out, work)
 }

@@ -9,7 +9,8 @@ ghost use Rattle.edge_draws.specs.Bounds.{Within};
 ghost use Rattle.generator.specs.Generate.{node_drawn, spent};
 ghost use Rattle.generator.specs.Nodes.{node_from};
 
-use edge_draws::edges::{Counted, MOST_EDGES, gather};
+use draws::generator::Generator;
+use edge_draws::edges::{MOST_EDGES, gather};
 use files::limits::PART_WORDS;
 use files::make::node_word;
 use output::writer::push;
@@ -27,34 +28,40 @@ fn write_words(words: &[u32], out: &mut [u8], start: usize) -> usize
 }
 
 // Node x with its edges, behind `start` words.
-fn write_node(state: u32, nodes: u32, edges: u32, x: u32, out: &mut [u8], start: usize) -> Counted
+fn write_node(
+    generator: &mut Generator,
+    nodes: u32,
+    edges: u32,
+    x: u32,
+    out: &mut [u8],
+    start: usize,
+) -> usize
     requires { Within nodes edges × (x < 65536) × (4 * part_words ≤ length out.old) }
-    ensures { Writes part_words (length out.old) out.old start out.new result.count (node_from (drawn state) nodes edges x)
-        × (result.state ≡ after (2 * edges) state) }
+    ensures { Writes part_words (length out.old) out.old start out.new result (node_from (drawn generator.old.state) nodes edges x)
+        × (generator.new.state ≡ after (2 * edges) generator.old.state) }
 {
     let mut words = [0u32; MOST_EDGES];
-    let g = gather(state, nodes, edges, &mut words);
+    let different = gather(generator, nodes, edges, &mut words);
     let first = x == 0;
     let count = push(out, PART_WORDS, start, node_word(x, first, first, false));
-    let all = write_words(&words[..g.count], out, count);
-    Counted {
-        count: all,
-        state: g.state,
-    }
+    write_words(&words[..different], out, count)
 }
 
 // All nodes.
-pub fn write_nodes(state: u32, nodes: u32, edges: u32, out: &mut [u8], start: usize) -> Counted
+pub fn write_nodes(
+    generator: &mut Generator,
+    nodes: u32,
+    edges: u32,
+    out: &mut [u8],
+    start: usize,
+) -> usize
     requires { Within nodes edges × (4 * part_words ≤ length out.old) }
-    ensures { Writes part_words (length out.old) out.old start out.new result.count (flatten (map (node_drawn (drawn state) nodes edges) (span 0 nodes)))
-        × (result.state ≡ spent state nodes edges) }
+    ensures { Writes part_words (length out.old) out.old start out.new result (flatten (map (node_drawn (drawn generator.old.state) nodes edges) (span 0 nodes)))
+        × (generator.new.state ≡ spent generator.old.state nodes edges) }
 {
     let mut count = start;
-    let mut s = state;
     for x in 0..nodes {
-        let p = write_node(s, nodes, edges, x, out, count);
-        count = p.count;
-        s = p.state;
+        count = write_node(generator, nodes, edges, x, out, count);
     }
-    Counted { count, state: s }
+    count
 }

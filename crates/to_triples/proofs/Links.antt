@@ -1,6 +1,6 @@
 -- The words of a whole one by one: a node's names the source of the triples behind it, another's is a triple. Those that are left, behind some
 -- that are written, give what all words give. Assumes nothing.
-use mathlib.Core.Path.{◌≡◌, refl, sym, ap, ◌∙◌}
+use mathlib.Core.Path.{◌≡◌, sym, ap, ◌∙◌}
 use mathlib.Core.Bool.{Bool, true, false}
 use mathlib.Core.List.{List, [], ◌∷◌, ◌++◌, append-nil, append_assoc}
 use Prim.Native.Nat.{ℕ}
@@ -16,7 +16,7 @@ use Rattle.files.specs.Part.{is_node}
 use Rattle.files.specs.Limits.{triple_words}
 use Rattle.files.proofs.Reading.{taken, ended}
 use Rattle.output.specs.Writer.{Writes}
-use Rattle.output.proofs.Writing.{Adding, adding_none, adding_more, behind}
+use Rattle.output.proofs.Writing.{Adding, adding_more, behind}
 use Rattle.triples.specs.Triple.{keys_from, words_of, source_in, label_in, target_in, link_of}
 
 -- One triple
@@ -42,9 +42,6 @@ pub record Listing (s d : List ℕ) (start : ℕ) (out : List ℕ) (x n k : ℕ)
   pub done : List ℕ
   pub adding : Adding triple_words d start out n done
   pub same : done ++ words_of (keys_from x (drop k (words s))) ≡ words_of (keys_from 0 (drop 1 (words s)))
-
-pub listing_first : (s d : List ℕ) (start : ℕ) → Listing s d start d 0 start 1
-listing_first s d start = record { done = []; adding = adding_none triple_words d start; same = refl }
 
 module _ {s d a : List ℕ} {start x n k w : ℕ} {c : Cursor} {r : Step} {b : Bool} (f : Listing s d start a x n k) (q : r ≡ Word w c) (e : r ≡ read_at s k) (h : b ≡ is_node w) where
   next : f.done ++ words_of (keys_from x (w ∷ drop c.at (words s))) ≡ words_of (keys_from 0 (drop 1 (words s)))

@@ -19,7 +19,6 @@ use Rattle.files.specs.Refuse.{◌then◌, ◌unless◌}
 use Rattle.files.specs.Outcome.{zeros}
 use Rattle.files.specs.Part.{is_node, is_edge, is_stopped, nodes, edges, whole_check}
 use Rattle.triples.specs.Triple.{root_in, is_linked, say_check}
-use Rattle.triples.proofs.Reading.{span_at}
 use Rattle.to_triples.specs.Say.{unsaid_at}
 use Rattle.to_triples.proofs.Nodes.{header_node, header_edge, node_place, edges_behind, root_told}
 
@@ -28,10 +27,6 @@ pub unsaid_told : (targets : ℕ → Bool) (ws : List ℕ) (i : ℕ) {w v x : �
     → h ≡ targets x → n ≡ is_node w → s ≡ stopped_of w → r ≡ root_of w → (n && (s || not (r || (e || h)))) ≡ unsaid_at targets ws i
 unfolding unsaid_at
 unsaid_told targets ws i w v e x h n s r = rw (n, s, r, e, h, x, v, w)
-
--- All words: index i of the first n is i
-pub seen : (targets : ℕ → Bool) (ws : List ℕ) (n i : ℕ) {b : Bool} → i < n → b ≡ unsaid_at targets ws i → b ≡ unsaid_at targets ws (get_or (span 0 n) i 0)
-seen targets ws n i l e = let q : 0 + i ≡ i = omega arith in rw (span_at 0 n i l, q) e
 
 -- a test of the place of each word that is one of the word
 any_span : (p g : ℕ → Bool) (k : ℕ) (ws : List ℕ) → ((j : ℕ) → j < length ws → p (k + j) ≡ g (get_or ws j 0)) → any p (span k (length ws)) ≡ any g ws

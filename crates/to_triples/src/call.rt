@@ -48,26 +48,18 @@ fn write(whole: &[u8], out: &mut [u8]) -> usize
     write_triples(whole, out, count)
 }
 
-// A number, and the count that the caller gets.
-#[derive(Clone, Copy)]
-pub struct Counted {
-    pub number: u32,
-    pub count: u32,
-}
-
-// The triples and their count, or the number of the check that refuses, and 0.
-fn answer(whole: &[u8], out: &mut [u8], work: &mut [u8]) -> Counted
-    ensures { Responds (to_call (length out.old) (length work.old) whole.now) (length out.old) out.new result.number
-        × (result.count ≡ lent_by (to_call (length out.old) (length work.old) whole.now) 0 (length (to_triples (words whole.now)))) }
+// The triples and their count, or the number of the check that refuses, and the count 0.
+fn answer(whole: &[u8], out: &mut [u8], count: &mut u32, work: &mut [u8]) -> u32
+    ensures { Responds (to_call (length out.old) (length work.old) whole.now) (length out.old) out.new result
+        × (count.new ≡ lent_by (to_call (length out.old) (length work.old) whole.now) 0 (length (to_triples (words whole.now)))) }
 {
+    *count = 0;
     let number = check(whole, out.len(), work);
     if number != 0 {
-        return Counted { number, count: 0 };
+        return number;
     }
-    Counted {
-        number: 0,
-        count: write(whole, out) as u32,
-    }
+    *count = write(whole, out) as u32;
+    0
 }
 
 // Turns a whole file into a triple file.
@@ -75,7 +67,6 @@ pub fn to_triples(whole: &[u8], out: &mut [u8], count: &mut u32, work: &mut [u8]
     ensures { left_lent count.new (left result out.new work.new)
         ≡ leaves_counted (length out.old) (length work.old) whole.now }
 {
-    let answered = answer(whole, out, work);
-    *count = answered.count;
-    settle(answered.number, out, work)
+    let number = answer(whole, out, count, work);
+    settle(number, out, work)
 }

@@ -32,15 +32,7 @@ fn has_unsaid(whole: &[u8], work: &[u8]) -> bool
     requires { (node_set_bytes ≤ length work.now) × (length (words whole.now) ≤ part_words) }
     ensures { result ≡ any (unsaid_at (has_node work.now 0) (words whole.now)) (span 0 (length (words whole.now))) }
 {
-    let count = whole.len() / 4;
-    let mut i = 0;
-    while i < count {
-        if is_unsaid(whole, work, i) {
-            return true;
-        }
-        i += 1;
-    }
-    false
+    (0..whole.len() / 4).any(|i| is_unsaid(whole, work, i))
 }
 
 // 19 of an accepted whole. The working buffer is used and not cleared after.

@@ -77,12 +77,6 @@ triples_at (r ∷ vs) e =
         let c : 3 * i + 3 ≡ suc (suc (suc (3 * i))) = omega arith in
         rw (a, b, c, same is)
 
--- for the proof of `has_large`: index i of the first n is i
-pub span_at : (k d i : ℕ) → i < d → get_or (span k d) i 0 ≡ k + i
-span_at k zero i l = absurd (omega arith)
-span_at k (suc d) zero l = omega arith
-span_at k (suc d) (suc i) l = span_at (suc k) d i (omega arith) ∙ omega arith
-
 -- for the proof of `is_large`
 pub large_is : (ws : List ℕ) (i : ℕ) {a b c : ℕ} → a ≡ get_or ws (3 * i + 1) 0 → b ≡ get_or ws (3 * i + 2) 0 → c ≡ get_or ws (3 * i + 3) 0
     → not (leb a 65535 && leb b 4095 && leb c 65535) ≡ large_at ws i

@@ -5,9 +5,9 @@ use Rattle.generator.proofs.call.answer.Goals as goal
 pub returns-then-number-ne0 : goal.returns-then-number-ne0
 returns-then-number-ne0 c =
     let a = c.args in
-    responds_refused a.nodes a.edges c.check-number.ensures a.state _ c.if-number-ne0.true
+    responds_refused a.nodes a.edges c.check-number.ensures a.generator.now.state _ c.if-number-ne0.true
 
 pub returns : goal.returns
 returns c =
     let a = c.args in
-    responds_written a.nodes a.edges c.check-number.ensures a.state c.if-number-ne0.false c.write.ensures
+    responds_written a.nodes a.edges c.check-number.ensures a.generator.now.state c.if-number-ne0.false c.write.ensures

@@ -8,7 +8,7 @@ loop-x-init c = noding_none _ _ _ _ _
 
 pub loop-x-preserved : goal.loop-x-preserved
 loop-x-preserved c =
-    noding_more c.loop-x.invariant c.loop-x-test.true (search rules) c.write_node-p.ensures
+    noding_more c.loop-x.invariant c.loop-x-test.true (search rules) c.write_node-count.ensures
 
 pub returns : goal.returns
 returns c = noding_last c.loop-x.invariant c.loop-x-test.false

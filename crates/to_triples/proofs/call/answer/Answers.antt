@@ -12,8 +12,8 @@ pub write-requires : goal.write-requires
 write-requires c =
     writable _ c.check-number.ensures c.if-number-ne0.false (search rules)
 
-pub overflow_cast-result : goal.overflow_cast-result
-overflow_cast-result c =
+pub overflow_cast-count : goal.overflow_cast-count
+overflow_cast-count c =
     omega (arith, c.write.ensures.1, counted _ c.check-number.ensures c.if-number-ne0.false)
 
 pub returns : goal.returns

@@ -7,12 +7,6 @@ use Rattle.output.proofs.Frame.{checking, works}
 use Rattle.to_triples.proofs.Answering.{whole_read}
 use Rattle.to_triples.proofs.call.check.Goals as goal
 
-pub returns-then-room-ne0 : goal.returns-then-room-ne0
-returns-then-room-ne0 c = search (checking, rules)
-
-pub check_whole-n-requires : goal.check_whole-n-requires
-check_whole-n-requires c = search (works, rules)
-
 pub returns-then-n-ne0 : goal.returns-then-n-ne0
 returns-then-n-ne0 c = search (checking, rules)
 
@@ -21,6 +15,3 @@ check_said-requires c =
     let a = c.args in
     let (few, accepted) = whole_read a.whole.now c.if-n-ne0.false c.check_whole-n.ensures in
     (works triple_words a.out (length a.work.now) c.if-room-ne0.false c.check_room-room.ensures (search rules) (omega arith), few, accepted)
-
-pub returns : goal.returns
-returns c = search (checking, rules)

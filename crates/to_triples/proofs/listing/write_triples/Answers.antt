@@ -1,11 +1,8 @@
 -- `to_triples::listing::write_triples` meets its contract. Assumes nothing.
 use borrow.Author.Rules.{rules}
 use Rattle.files.proofs.Reading.{fewer}
-use Rattle.to_triples.proofs.Links.{listing_first, listing_node, listing_edge, listing_last}
+use Rattle.to_triples.proofs.Links.{listing_node, listing_edge, listing_last}
 use Rattle.to_triples.proofs.listing.write_triples.Goals as goal
-
-pub loop-w-init : goal.loop-w-init
-loop-w-init c = listing_first _ _ _
 
 pub loop-w-smaller-then-is_node : goal.loop-w-smaller-then-is_node
 loop-w-smaller-then-is_node c = search (fewer, rules)

@@ -1,4 +1,0 @@
-pub mod Wrapping
-pub mod Generators
-pub mod Numbers
-pub mod Loan
