@@ -31,12 +31,11 @@ pub fn settle_desk(s: Stand, number: u32, words: usize, later: usize) -> Stand
     requires { (number < 256) × (s.next < 8) }
     ensures { Settles s number words later result }
 {
-    let numbers = enter(s.numbers, number);
     Stand {
-        numbers: numbers,
+        numbers: enter(s.numbers, number),
         next: s.next + 1,
-        words: words,
-        later: later,
+        words,
+        later,
     }
 }
 
@@ -45,8 +44,7 @@ pub fn erase(out: &mut [u8], at: usize)
     requires { 4 * at ≤ length out.old }
     ensures { Erased at out.old out.new }
 {
-    let from = 4 * at;
-    clear(&mut out[from..]);
+    clear(&mut out[4 * at..]);
 }
 
 // The words of a reply that count as those of a short one.

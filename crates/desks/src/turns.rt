@@ -33,9 +33,10 @@ pub fn lay(
         return settle_desk(s, a.number, end, 0);
     }
     erase(out, at);
-    let mut r = s;
-    r.later = s.later + short_part(end - at);
-    r
+    Stand {
+        later: s.later + short_part(end - at),
+        ..s
+    }
 }
 
 // The second round at the next desk: a short reply goes in, a longer one if it fits beside those that are in and the short ones to come.

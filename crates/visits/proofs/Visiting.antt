@@ -2,9 +2,10 @@
 use mathlib.Core.Path.{◌≡◌, refl, sym, ◌∙◌, ap, subst}
 use mathlib.Core.Bool.{Bool, true, false, cond}
 use mathlib.Core.List.{List, [], ◌∷◌}
-use Prim.Native.Nat.{ℕ, zero, suc, ◌+◌, ◌*◌, ◌≤◌, ◌<◌}
+use Prim.Native.Nat.{ℕ, zero, suc, ◌+◌, ◌*◌, ◌≤◌, ◌<◌, min}
 use native.Mathlib.Omega.{arith}
 use borrow.Author.Tests.{leb-true, leb-false}
+use Rattle.std.proofs.lemmas.Bool.Decides.{nat_tests}
 use lib.Dec.{leb}
 use lib.ListN.{length}
 use Rattle.sets.specs.Sets.{Mem, here, there}
@@ -43,9 +44,9 @@ shortest_below {n} (a ∷ k ∷ ns) m = by (leb a (shortest (k ∷ ns))) refl (s
     by false t f (here e) = omega (arith, leb-false a (shortest (k ∷ ns)) t, e)
     by false t f (there m) = f m
 
--- as the code finds it
-pub shortest_four : (a b c d : ℕ) {x y z : ℕ} → x ≡ shortest (c ∷ d ∷ []) → y ≡ shortest (b ∷ x ∷ []) → z ≡ shortest (a ∷ y ∷ []) → z ≡ shortest (a ∷ b ∷ c ∷ d ∷ [])
-shortest_four a b c d e f g = g ∙ ap (λ y. shortest (a ∷ y ∷ [])) (f ∙ ap (λ x. shortest (b ∷ x ∷ [])) e)
+-- of two it is the least
+pub shortest_two : (a b : ℕ) → min a b ≡ shortest (a ∷ b ∷ [])
+shortest_two a b = grind (arith, nat_tests)
 
 -- all passed: each output has room, part and groups are accepted, and the bundle is split
 module _ {most m : ℕ} {part groups paths : List ℕ} (ns : List ℕ) (c : VisitChecked most (shortest ns) m part groups paths 0) where

@@ -3,16 +3,10 @@ ghost use Rattle.std.specs.Prelude.{◌≡◌, [], ◌∷◌, ◌<◌};
 ghost use Rattle.path_bundles.specs.Packed.{packed};
 ghost use Rattle.visits.specs.Whole.{shortest as shortestOf};
 
-fn shorter(a: usize, b: usize) -> usize
-    ensures { result ≡ shortestOf (a ∷ b ∷ []) }
-{
-    if a <= b { a } else { b }
-}
-
 pub fn shortest(a: usize, b: usize, c: usize, d: usize) -> usize
     ensures { result ≡ shortestOf (a ∷ b ∷ c ∷ d ∷ []) }
 {
-    shorter(a, shorter(b, shorter(c, d)))
+    a.min(b.min(c.min(d)))
 }
 
 // A byte each, the first the lowest.

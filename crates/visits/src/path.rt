@@ -45,10 +45,7 @@ pub fn ask(
         return Asked { number: n, end: at };
     }
     let end = append(part, groups, path, at, out, work);
-    Asked {
-        number: 0,
-        end: end,
-    }
+    Asked { number: 0, end }
 }
 
 // Its reply, or the number that refuses the whole or this path; nothing where there is no path.

@@ -1,9 +1,0 @@
--- `visits::outputs::shorter` meets its contract. Assumes nothing.
-use borrow.Author.Tests.{le-leb, lt-leb}
-use Rattle.visits.proofs.outputs.shorter.Goals as goal
-
-pub returns-then-a-b : goal.returns-then-a-b
-returns-then-a-b c = rw (le-leb _ _ c.if-a-b.true)
-
-pub returns-else-a-b : goal.returns-else-a-b
-returns-else-a-b c = rw (lt-leb _ _ c.if-a-b.false)
