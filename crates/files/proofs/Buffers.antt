@@ -1,4 +1,4 @@
--- Laws of buffers: zeros filled in from the front, and words put one after another in front of zeros.
+-- Laws of buffers: words put one after another in front of zeros.
 -- Assumes nothing.
 use mathlib.Core.Path.{◌≡◌, refl}
 use mathlib.Core.List.{List, [], ◌∷◌, ◌++◌, append-nil}
@@ -9,23 +9,6 @@ use lib.ListN.{length, set, drop, length-set, drop_of_length-le, length-append, 
 use Rattle.files.specs.Word.{bytes_of, put_word}
 use Rattle.files.proofs.Words.{bytes_length}
 use Rattle.files.specs.Outcome.{zeros, padded}
-
--- of d, the first i bytes are 0 in buf
-pub record Filling (d buf : List ℕ) (i : ℕ) : Type 0 where
-  pub is : buf ≡ zeros i ++ drop i d
-  pub within : i ≤ length d
-  pub same : length buf ≡ length d
-
-pub filling_none : (d : List ℕ) → Filling d d 0
-filling_none d = record { is = refl; within = omega arith; same = refl }
-
-pub filling_more : {d buf : List ℕ} {i : ℕ} → Filling d buf i → i < length buf → Filling d (set buf i 0) (i + 1)
-filling_more {d} {buf} {i} f h = record { is = rw f.is (fill_more i 0 d (omega arith)); within = omega arith; same = simp length-set f.same }
-
-pub filling_all : {d buf : List ℕ} {i : ℕ} → Filling d buf i → length buf ≤ i → buf ≡ zeros (length d)
-filling_all {d} {buf} {i} f h =
-    let e : i ≡ length d = omega arith in
-    rw (f.is, drop_of_length-le d {i = i} (omega arith), append-nil, e)
 
 pub padded_none : (n : ℕ) → padded n [] ≡ zeros n
 padded_none n = let e : n - 0 ≡ n = omega arith in rw e

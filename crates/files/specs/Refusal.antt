@@ -1,4 +1,4 @@
--- Believed. Refusals by name, with their numbers. Document 01, "Numbered refusals".
+-- Inner. Refusals by name, with their numbers. Document 01, "Numbered refusals".
 use Rattle.std.specs.Prelude.{ℕ, Result, Ok, Err}
 use Rattle.files.specs.declared.refusal.Refusal.{Refusal}
 use Rattle.files.specs.declared.refusal.Refusal.TheVariants.{NoRoom, WrongSize, WrongHeader, WrongLength, WrongWord, NotAscending, WrongRoot, LostTarget, WrongOperands, StateTooHigh, WrongCounts, MixedReplies, NodeTwice, Stray, TooLong, WrongGroups, WrongFiles, WrongTriples, Unsaid, NoWalk, WrongDemands}
