@@ -1,10 +1,32 @@
 // The generator: a 32-bit state that each draw moves on. Whoever draws is lent it by `&mut`.
-ghost use Rattle.std.specs.Prelude.{◌≡◌};
-ghost use Rattle.draws.specs.Draws.{moved, drawn};
+ghost use Rattle.std.specs.Prelude.{◌≡◌, ◌*◌, ◌%◌, ◌^◌};
+ghost use Rattle.draws.specs.Draws.{moved, upper_bits, drawn};
 
 const MULTIPLIER: u32 = 1664525;
 
 const INCREMENT: u32 = 1013904223;
+
+// The wrapping product: of the whole product the lower 32 bits.
+fn wrapping_mul(a: u32, b: u32) -> u32
+    ensures { result ≡ a * b % 2 ^ 32 }
+{
+    let whole = (a as u64) * (b as u64);
+    (whole % 0x1_0000_0000) as u32
+}
+
+// The next state.
+fn step(state: u32) -> u32
+    ensures { result ≡ moved state }
+{
+    wrapping_mul(state, MULTIPLIER).wrapping_add(INCREMENT)
+}
+
+// What a draw hands out, by the state that it moved on to.
+fn upper(state: u32) -> u32
+    ensures { result ≡ upper_bits state }
+{
+    state / 0x1_0000
+}
 
 #[derive(Drop)]
 pub struct Generator {
@@ -16,7 +38,7 @@ impl Generator {
     pub fn draw(&mut self) -> u32
         ensures { (self.new.state ≡ moved self.old.state) × (result ≡ drawn self.old.state 0) }
     {
-        self.state = self.state.wrapping_mul(MULTIPLIER).wrapping_add(INCREMENT);
-        self.state / 0x1_0000
+        self.state = step(self.state);
+        upper(self.state)
     }
 }

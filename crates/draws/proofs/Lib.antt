@@ -1,0 +1,4 @@
+pub mod Wrapping
+pub mod Generators
+pub mod Numbers
+pub mod Loan
