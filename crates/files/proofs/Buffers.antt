@@ -1,11 +1,10 @@
 -- Laws of buffers: words put one after another in front of zeros.
 -- Assumes nothing.
 use mathlib.Core.Path.{◌≡◌, refl}
-use mathlib.Core.List.{List, [], ◌∷◌, ◌++◌, append-nil}
-use Prim.Native.Nat.{ℕ, suc, ◌+◌, ◌-◌, ◌*◌, ◌≤◌, ◌<◌}
+use mathlib.Core.List.{List, [], ◌∷◌, ◌++◌}
+use Prim.Native.Nat.{ℕ, suc, ◌-◌, ◌*◌, ◌≤◌}
 use native.Mathlib.Omega.{arith}
-use borrow.Author.Fill.{fill_more}
-use lib.ListN.{length, set, drop, length-set, drop_of_length-le, length-append, length-replicate}
+use lib.ListN.{length, length-append, length-replicate}
 use Rattle.files.specs.Word.{bytes_of, put_word}
 use Rattle.files.proofs.Words.{bytes_length}
 use Rattle.files.specs.Outcome.{zeros, padded}

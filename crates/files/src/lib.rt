@@ -1,7 +1,8 @@
-// Files of 32-bit little-endian words: words and fields, the words one after another, the checks that every file shares, and what a call leaves.
+// Files of 32-bit little-endian words: words and fields, a reading position and what goes along with it, the checks that every file shares, and what a call leaves.
 #![tactic(auto)]
 
 pub mod buffer;
+pub mod cursor;
 pub mod expr;
 pub mod field;
 pub mod limits;
