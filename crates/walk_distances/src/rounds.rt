@@ -13,10 +13,11 @@ ghost use Rattle.file_walks.specs.Walks.{runs_in};
 ghost use Rattle.best_walks.proofs.Rounds.{Round, Turned};
 ghost use Rattle.walk_rows.specs.Distances.{distance, numbered};
 ghost use Rattle.walk_links.specs.Tables.{first_base, second_base, target_at, Blank, Edged};
-ghost use Rattle.walk_distances.specs.Rounds.{Turns, Waiting, IsList, Ready, Written, Reached};
+ghost use Rattle.walk_distances.specs.Rounds.{Turns, Waiting, Ready, Numbering, Starting, Written, Reached};
 
 use sets::table::{get16, put16};
 use slots::tables::OWNER;
+use std::mem::swap;
 use walk_links::links::Asked;
 use walk_links::tables::{FIRST, HEADS, MASK, NEXT, SECOND};
 use walk_rows::rows::{having, preceding, spread};
@@ -44,7 +45,7 @@ fn follow_back(
     f: u16,
     v: u16,
 ) -> usize
-    requires ready { Ready (words asked.now.whole.now) asked.now.automaton work.old out.old × IsList to × Waiting (words asked.now.whole.now) work.old out.old to v top × (1 < v) }
+    requires numbering { Numbering (words asked.now.whole.now) asked.now.automaton work.old out.old to v top }
     requires edge { (edge_at (words asked.now.whole.now) x ≡ true) × ((p : ℕ) → has_state f p ≡ (ltb p 16 && eqb (suc (half work.old 0 (16 * target_at work.old x + p))) v)) }
     ensures turns { (done : ℕ → Bool) → Turns (words asked.now.whole.now) asked.now.automaton v work.old work.new done (λ z. done z || eqb z x) }
     ensures written { Written (words asked.now.whole.now) to v work.old work.new out.old out.new }
@@ -71,7 +72,7 @@ fn visit(
     i: usize,
     v: u16,
 ) -> usize
-    requires ready { Ready (words asked.now.whole.now) asked.now.automaton work.old out.old × IsList to × Waiting (words asked.now.whole.now) work.old out.old to v height × (1 < v) }
+    requires numbering { Numbering (words asked.now.whole.now) asked.now.automaton work.old out.old to v height }
     requires node { node_at (words asked.now.whole.now) i ≡ true }
     ensures turns { (done : ℕ → Bool) → Turns (words asked.now.whole.now) asked.now.automaton v work.old work.new done
         (λ z. done z || (edge_at (words asked.now.whole.now) z && eqb (number (words asked.now.whole.now) z) (number (words asked.now.whole.now) i))) }
@@ -99,8 +100,7 @@ fn round(
     count: usize,
     v: u16,
 ) -> usize
-    requires ready { Ready (words asked.now.whole.now) asked.now.automaton work.old out.old × IsList from × IsList to × (from ≡ to → ⊥) × (1 < v) }
-    requires listed { (u : ℕ) → v ≡ suc u → Waiting (words asked.now.whole.now) work.old out.old from u count }
+    requires starting { Starting (words asked.now.whole.now) asked.now.automaton work.old out.old from to count v }
     requires unnumbered { (j : ℕ) → node_at (words asked.now.whole.now) j ≡ true → numbered work.old j v ≡ false }
     ensures turned { (e : Expr) → Automates asked.now.automaton e → (y k : ℕ) → v ≡ suc (suc k)
         → Turned holds (runs_in (drop 1 (words asked.now.whole.now))) (drop 1 (words asked.now.whole.now)) e y k
@@ -116,13 +116,6 @@ fn round(
     top
 }
 
-// The list that is not at `base`.
-fn other(base: usize) -> usize
-    ensures { result ≡ cond (eqb base first_base) second_base first_base }
-{
-    if base == FIRST { SECOND } else { FIRST }
-}
-
 // Rounds until the node at `root` has a number in state 0, or no number is new: by how many links it arrives, if it does.
 fn rounds(asked: &Asked, work: &mut [u8], out: &mut [u8], root: usize, height: usize) -> Option<u16>
     requires ready { Ready (words asked.now.whole.now) asked.now.automaton work.old out.old × (node_at (words asked.now.whole.now) root ≡ true) × ((e : Expr) × Automates asked.now.automaton e) }
@@ -134,6 +127,7 @@ fn rounds(asked: &Asked, work: &mut [u8], out: &mut [u8], root: usize, height: u
     ensures edged { Edged (words asked.now.whole.now) asked.now.automaton work.new }
 {
     let mut from = FIRST;
+    let mut to = SECOND;
     let mut count = height;
     let mut v: u16 = 1;
     'rounds: loop {
@@ -145,9 +139,8 @@ fn rounds(asked: &Asked, work: &mut [u8], out: &mut [u8], root: usize, height: u
             return None;
         }
         v += 1;
-        let to = other(from);
         count = round(asked, work, out, from, to, count, v);
-        from = to;
+        swap(&mut from, &mut to);
     }
 }
 
