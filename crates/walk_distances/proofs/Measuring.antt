@@ -32,36 +32,31 @@ use Rattle.walk_rows.specs.Distances.{distance, numbered, Hit}
 use Rattle.walk_rows.proofs.Positions.{distance_row, distance_high, distance_some, distance_rest}
 use Rattle.walk_rows.proofs.Cells.{numbered_iff}
 use Rattle.walk_links.specs.Tables.{first_base, second_base, Blank}
-use Rattle.walk_distances.specs.Rounds.{Waiting, IsList, Ready, Written, Reached}
+use Rattle.walk_distances.specs.Rounds.{Waiting, IsList, Ready, Starting, Written, Reached}
 use Rattle.walk_distances.proofs.Noting.{ready_written, list_room, note_written, note_waiting}
 use Rattle.walk_distances.proofs.Passing.{distance_numbered, numbered_distance, list_has, list_node, list_numbered, list_none}
-
--- the other list
-pub other_list : {from to : ℕ} → IsList from → to ≡ cond (eqb from first_base) second_base first_base → IsList to × (from ≡ to → ⊥)
-other_list {from} l e = ⊎_elim
-    (λ (p : from ≡ first_base). let q = rw (eq-eqb from first_base p) at e in (inr q, λ z. omega arith))
-    (λ (p : from ≡ second_base). let q = rw (ne_eqb from first_base (λ z. omega arith)) at e in (inl q, λ z. omega arith))
-    l
 
 -- ---- rounds
 
 -- the rounds up to v are done: the nodes that have v are on the list
-pub record Going (ws : List ℕ) (a : Automaton) (w₀ w o₀ o : List ℕ) (from count v : ℕ) : Type 0 where
+pub record Going (ws : List ℕ) (a : Automaton) (w₀ w o₀ o : List ℕ) (from to count v : ℕ) : Type 0 where
   pub done : ℕ
   pub is : v ≡ suc done
   pub round : (y : ℕ) (e : Expr) → Automates a e → Round holds (runs_in (drop 1 ws)) (drop 1 ws) e y 0 (distance ws w₀)
       → Round holds (runs_in (drop 1 ws)) (drop 1 ws) e y done (distance ws w)
   pub ready : Ready ws a w o
-  pub list : IsList from
+  pub reads : IsList from
+  pub writes : IsList to
+  pub apart : from ≡ to → ⊥
   pub waiting : Waiting ws w o from v count
   pub few : v ≤ 16386
   pub long : length w ≡ length w₀
   pub long_out : length o ≡ length o₀
 
-pub going_first : {ws : List ℕ} {a : Automaton} {w o : List ℕ} {count : ℕ} → Ready ws a w o → Waiting ws w o first_base 1 count → Going ws a w w o o first_base count 1
-going_first r s = record { done = 0; is = refl; round = λ y e h i. i; ready = r; list = inl refl; waiting = s; few = omega arith; long = refl; long_out = refl }
+pub going_first : {ws : List ℕ} {a : Automaton} {w o : List ℕ} {count : ℕ} → Ready ws a w o → Waiting ws w o first_base 1 count → Going ws a w w o o first_base second_base count 1
+going_first r s = record { done = 0; is = refl; round = λ y e h i. i; ready = r; reads = inl refl; writes = inr refl; apart = λ z. omega arith; waiting = s; few = omega arith; long = refl; long_out = refl }
 
-module _ {ws : List ℕ} {a : Automaton} {w₀ w o₀ o : List ℕ} {from count v : ℕ} (g : Going ws a w₀ w o₀ o from count v) where
+module _ {ws : List ℕ} {a : Automaton} {w₀ w o₀ o : List ℕ} {from to count v : ℕ} (g : Going ws a w₀ w o₀ o from to count v) where
   abbrev part : part_check ws ≡ 0
   part = whole_part ws g.ready.measurable.accepted
 
@@ -103,8 +98,15 @@ module _ {ws : List ℕ} {a : Automaton} {w₀ w o₀ o : List ℕ} {from count 
       let (q, d) = numbered_distance ws part w j (v + 1) n t in
       omega (arith, g.is, (g.round y e h (i e h)).upto (number ws j) q (suc g.done) (d ∙ omega (arith, g.is))))
 
-  pub going_list : (u : ℕ) → v + 1 ≡ suc u → Waiting ws w o from u count
-  going_list u e = let i : v ≡ u = omega arith in subst (λ v. Waiting ws w o from v count) i g.waiting
+  pub going_on : Starting ws a w o from to count (v + 1)
+  going_on = record {
+    ready = g.ready;
+    reads = g.reads;
+    writes = g.writes;
+    apart = g.apart;
+    big = omega (arith, g.is);
+    listed = λ u e. let i : v ≡ u = omega arith in subst (λ v. Waiting ws w o from v count) i g.waiting;
+  }
 
   -- some node has v, and no number is more than the pairs of a node and a state are
   module _ (some : (e : Expr) × Automates a e) (start : (y : ℕ) × ((e : Expr) → Automates a e → Round holds (runs_in (drop 1 ws)) (drop 1 ws) e y 0 (distance ws w₀)))
@@ -118,17 +120,19 @@ module _ {ws : List ℕ} {a : Automaton} {w₀ w o₀ o : List ℕ} {from count 
         let s = round_small holds (runs_in (drop 1 ws)) (drop 1 ws) e y h.small g.done (distance ws w) (g.round y e h (i e h)) (number ws (half o from 0)) q in
         omega (arith, d, s, nodes_length (drop 1 ws), length-drop 1 ws, g.ready.measurable.few)
 
-    pub going_next : {w' o' : List ℕ} {to count' : ℕ} → to ≡ cond (eqb from first_base) second_base first_base
+    pub going_next : {w' o' : List ℕ} {count' : ℕ}
         → ((e : Expr) → Automates a e → (y k : ℕ) → v + 1 ≡ suc (suc k)
         → Turned holds (runs_in (drop 1 ws)) (drop 1 ws) e y k (distance ws w) (distance ws w'))
-        → Written ws to (v + 1) w w' o o' → Waiting ws w' o' to (v + 1) count' → Going ws a w₀ w' o₀ o' to count' (v + 1)
-    going_next {w'} to_is turned written s = record {
+        → Written ws to (v + 1) w w' o o' → Waiting ws w' o' to (v + 1) count' → Going ws a w₀ w' o₀ o' to from count' (v + 1)
+    going_next {w'} turned written s = record {
       done = suc g.done;
       is = next;
       round = λ y e h i.
           round_next holds (runs_in (drop 1 ws)) (drop 1 ws) e y g.done (distance ws w) (distance ws w') (g.round y e h i) (turned e h y g.done next);
-      ready = ready_written (other_list g.list to_is).0 written g.ready;
-      list = (other_list g.list to_is).0;
+      ready = ready_written g.writes written g.ready;
+      reads = g.writes;
+      writes = g.reads;
+      apart = λ z. g.apart (sym z);
       waiting = s;
       few = going_bound;
       long = written.long ∙ g.long;

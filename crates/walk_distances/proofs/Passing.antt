@@ -32,7 +32,7 @@ use Rattle.best_walks.proofs.Rounds.{Turning, Turned, turning_none}
 use Rattle.walk_rows.specs.Distances.{distance, numbered}
 use Rattle.walk_rows.proofs.Positions.{distance_row, distance_some}
 use Rattle.walk_rows.proofs.Cells.{numbered_iff}
-use Rattle.walk_distances.specs.Rounds.{Handled, Turns, Waiting, IsList, Ready, Written}
+use Rattle.walk_distances.specs.Rounds.{Handled, Turns, Waiting, Ready, Starting, Written}
 use Rattle.walk_distances.proofs.Handling.{weaker}
 use Rattle.walk_distances.proofs.Noting.{written_refl, written_trans, ready_written}
 use Rattle.walk_distances.proofs.Chaining.{into}
@@ -110,23 +110,22 @@ rounding_first ws a from to v w o none = record {
   waiting = list_none ws w o to v none;
 }
 
-module _ {ws : List ℕ} {a : Automaton} {from to v count : ℕ} {w₀ o₀ : List ℕ} (ready : Ready ws a w₀ o₀) (reads : IsList from) (writes : IsList to) (apart : from ≡ to → ⊥)
-    (big : 1 < v) (listed : (u : ℕ) → v ≡ suc u → Waiting ws w₀ o₀ from u count) where
+module _ {ws : List ℕ} {a : Automaton} {from to v count : ℕ} {w₀ o₀ : List ℕ} (start : Starting ws a w₀ o₀ from to count v) where
   abbrev last : Waiting ws w₀ o₀ from (v - 1) count
-  last = listed (v - 1) (omega arith)
+  last = start.listed (v - 1) (omega arith)
 
   module _ {w o : List ℕ} {top k : ℕ} (g : Rounding ws a from to v w₀ w o₀ o top k) where
     pub rounding_ready : Ready ws a w o
-    rounding_ready = ready_written writes g.written ready
+    rounding_ready = ready_written start.writes g.written start.ready
 
     -- the list that is read is not written
     rounding_same : k < count → half o from k ≡ half o₀ from k
     rounding_same l =
         let short = list_short last in
         g.written.list from k (⊎_elim
-        (λ (p : from ≡ _). ⊎_elim (λ q. absurd (apart (p ∙ sym q))) (λ q. inl (omega (arith, ready.measurable.few))) writes)
-        (λ (p : from ≡ _). ⊎_elim (λ q. inr (omega arith)) (λ q. absurd (apart (p ∙ sym q))) writes)
-        reads)
+        (λ (p : from ≡ _). ⊎_elim (λ q. absurd (start.apart (p ∙ sym q))) (λ q. inl (omega (arith, start.ready.measurable.few))) start.writes)
+        (λ (p : from ≡ _). ⊎_elim (λ q. inr (omega arith)) (λ q. absurd (start.apart (p ∙ sym q))) start.writes)
+        start.reads)
 
     pub rounding_node : {i : ℕ} → k < count → i ≡ half o from k → node_at ws i ≡ true
     rounding_node l e = subst (λ i. node_at ws i ≡ true) (sym (e ∙ rounding_same l)) (list_node last k l)
@@ -135,7 +134,7 @@ module _ {ws : List ℕ} {a : Automaton} {from to v count : ℕ} {w₀ o₀ : Li
     rounding_room l = ⊎_elim
         (λ p. omega (arith, list_short last, rounding_ready.measurable.few, rounding_ready.measurable.holds))
         (λ p. omega (arith, list_short last, rounding_ready.measurable.few, rounding_ready.measurable.holds))
-        reads
+        start.reads
 
     pub rounding_next : {i : ℕ} {w' o' : List ℕ} {top' : ℕ} → k < count → i ≡ half o from k
         → ((done : ℕ → Bool) → Turns ws a v w w' done (λ z. done z || (edge_at ws z && eqb (number ws z) (number ws i))))
@@ -156,12 +155,12 @@ module _ {ws : List ℕ} {a : Automaton} {from to v count : ℕ} {w₀ o₀ : Li
         record { kept = t.kept; made = t.made; all = λ x q i o. t.all x q i o (handled x o.word o.state o.edge o.has) }
       where
         c : part_check ws ≡ 0
-        c = whole_part ws ready.measurable.accepted
+        c = whole_part ws start.ready.measurable.accepted
 
         handled : (x u q : ℕ) → Mem u (edges (drop 1 ws) x) → distance ws w₀ (target_of u) q ≡ suc d → Handled ws (visited ws o₀ from k) x u
         handled x u q m i =
             let (b, n, j) = in_node ws x (subst (Mem x) (nodes_same ws c) (edge_of (drop 1 ws) x u m).2) in
             let (z, r, p) = (behind_iff ws c b u n).0 (subst (λ x. Mem u (edges (drop 1 ws) x)) (sym j) m) in
             let (t, n', j', f) = distance_numbered ws c w₀ (target_of u) q d i in
-            let (k', l', at) = list_has (listed (suc d) is) t n' f in
+            let (k', l', at) = list_has (start.listed (suc d) is) t n' f in
             (b, z, r, j, p, visited_at ws o₀ from k k' z (omega arith) (r.edges z r.after (le_refl z)) (target_of_lem ws z u p ∙ sym j' ∙ ap (number ws) (sym at)))

@@ -36,6 +36,22 @@ pub record Ready (ws : List ℕ) (a : Automaton) (w o : List ℕ) : Type 0 where
   pub edged : Edged ws a w
   pub indexed : Indexed ws o
 
+-- the tables, and the list at `to` of the nodes that have got the number v, in the round that writes it
+pub record Numbering (ws : List ℕ) (a : Automaton) (w o : List ℕ) (to v top : ℕ) : Type 0 where
+  pub ready : Ready ws a w o
+  pub list : IsList to
+  pub waiting : Waiting ws w o to v top
+  pub big : 1 < v
+
+-- the tables before that round, which reads the list at `from`
+pub record Starting (ws : List ℕ) (a : Automaton) (w o : List ℕ) (from to count v : ℕ) : Type 0 where
+  pub ready : Ready ws a w o
+  pub reads : IsList from
+  pub writes : IsList to
+  pub apart : from ≡ to → ⊥
+  pub big : 1 < v
+  pub listed : (u : ℕ) → v ≡ suc u → Waiting ws w o from u count
+
 -- only v was written, over 0, in rows of node words; and only in the list at `to`
 pub record Written (ws : List ℕ) (to v : ℕ) (w w' o o' : List ℕ) : Type 0 where
   pub grown : (m : ℕ) → (half w' 0 m ≡ half w 0 m) ⊎ ((half w 0 m ≡ 0) × (half w' 0 m ≡ v))

@@ -5,27 +5,30 @@ use Rattle.walk_distances.proofs.rounds.round.Goals as goal
 
 pub loop-k-init : goal.loop-k-init
 loop-k-init c =
-    rounding_first (words c.args.whole.now) c.args.a c.args.from c.args.to c.args.v c.args.work.now c.args.out.now c.requires.unnumbered
+    rounding_first (words c.args.asked.now.whole.now) c.args.asked.now.automaton c.args.from c.args.to c.args.v c.args.work.now c.args.out.now c.requires.unnumbered
 
 pub get16-i-requires : goal.get16-i-requires
-get16-i-requires c =
-    rounding_room c.requires.ready.0 c.requires.ready.1 c.requires.ready.2 c.requires.ready.3 c.requires.ready.4 c.requires.listed c.loop-k.invariant c.loop-k-test.true
+get16-i-requires c = rounding_room c.requires.starting c.loop-k.invariant c.loop-k-test.true
 
 pub visit-top-requires : goal.visit-top-requires
 visit-top-requires c = record {
-  ready = (
-    rounding_ready c.requires.ready.0 c.requires.ready.1 c.requires.ready.2 c.requires.ready.3 c.requires.ready.4 c.requires.listed c.loop-k.invariant,
-    c.requires.ready.2,
-    c.loop-k.invariant.waiting,
-    c.requires.ready.4,
-  );
-  node = rounding_node c.requires.ready.0 c.requires.ready.1 c.requires.ready.2 c.requires.ready.3 c.requires.ready.4 c.requires.listed c.loop-k.invariant c.loop-k-test.true c.get16-i.ensures;
+  numbering = record {
+    ready = rounding_ready c.requires.starting c.loop-k.invariant;
+    list = c.requires.starting.writes;
+    waiting = c.loop-k.invariant.waiting;
+    big = c.requires.starting.big;
+  };
+  node = rounding_node c.requires.starting c.loop-k.invariant c.loop-k-test.true c.get16-i.ensures;
 }
 
 pub loop-k-preserved : goal.loop-k-preserved
 loop-k-preserved c =
-    rounding_next c.requires.ready.0 c.requires.ready.1 c.requires.ready.2 c.requires.ready.3 c.requires.ready.4 c.requires.listed c.loop-k.invariant c.loop-k-test.true c.get16-i.ensures
+    rounding_next c.requires.starting c.loop-k.invariant c.loop-k-test.true c.get16-i.ensures
     c.visit-top.ensures.turns c.visit-top.ensures.written c.visit-top.ensures.waiting
 
 pub returns : goal.returns
-returns c = record { turned = rounding_last c.requires.ready.0 c.requires.ready.1 c.requires.ready.2 c.requires.ready.3 c.requires.ready.4 c.requires.listed c.loop-k.invariant c.loop-k-test.false; written = c.loop-k.invariant.written; waiting = c.loop-k.invariant.waiting }
+returns c = record {
+  turned = rounding_last c.requires.starting c.loop-k.invariant c.loop-k-test.false;
+  written = c.loop-k.invariant.written;
+  waiting = c.loop-k.invariant.waiting;
+}
