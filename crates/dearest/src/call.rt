@@ -6,7 +6,7 @@ ghost use Rattle.output.specs.Frame.{Checked, Responds};
 ghost use Rattle.dearest.specs.Dearest.{dear_part, dear_path, left_both, dearest_number, dearest_call};
 ghost use Rattle.dearest.specs.Answer.{checks, Writable, part_outcome, path_outcome};
 
-use crate::counts::check_counts;
+use crate::counts::{Counts, check_counts};
 use crate::part::write_part;
 use crate::path::write_path;
 use files::limits::{PART_WORDS, PATH_WORDS};
@@ -14,8 +14,8 @@ use files::refuse::{check_room, first};
 use output::settle::{settle, withhold};
 
 // The number of the first check that fails: the buffers, the counts.
-fn check(doors: u32, targets: u32, labels: u32, part: usize, path: usize, work: usize) -> u32
-    ensures { Checked part_words part work (checks path work doors targets labels) result }
+fn check(counts: Counts, part: usize, path: usize, work: usize) -> u32
+    ensures { Checked part_words part work (checks path work counts.doors counts.targets counts.labels) result }
 {
     let part_room = check_room(PART_WORDS, part, work);
     if part_room != 0 {
@@ -25,38 +25,30 @@ fn check(doors: u32, targets: u32, labels: u32, part: usize, path: usize, work: 
     if path_room != 0 {
         return path_room;
     }
-    check_counts(doors, targets, labels)
+    check_counts(counts)
 }
 
 // Writes both files. Neither is over its limit, so the number is 0.
-fn write(doors: u32, targets: u32, labels: u32, part: &mut [u8], path: &mut [u8]) -> u32
-    requires { Writable (length part.old) (length path.old) doors targets labels }
-    ensures { Filed part_words (length part.old) (dear_part doors targets) part.new result
-        × Filed path_words (length path.old) (dear_path labels) path.new result }
+fn write(counts: Counts, part: &mut [u8], path: &mut [u8]) -> u32
+    requires { Writable (length part.old) (length path.old) counts.doors counts.targets counts.labels }
+    ensures { Filed part_words (length part.old) (dear_part counts.doors counts.targets) part.new result
+        × Filed path_words (length path.old) (dear_path counts.labels) path.new result }
 {
-    let written = write_part(doors, targets, part);
-    first(written, write_path(labels, path))
+    let written = write_part(counts.doors, counts.targets, part);
+    first(written, write_path(counts.labels, path))
 }
 
 // Both files, or the number of the check that refuses.
-fn answer(
-    doors: u32,
-    targets: u32,
-    labels: u32,
-    part: &mut [u8],
-    path: &mut [u8],
-    work: usize,
-) -> u32
-    ensures { Responds (part_outcome (dearest_number (length part.old) (length path.old) work doors targets labels) doors targets)
-        (length part.old) part.new result
-        × Responds (path_outcome (dearest_number (length part.old) (length path.old) work doors targets labels) labels)
-        (length path.old) path.new result }
+fn answer(counts: Counts, part: &mut [u8], path: &mut [u8], work: usize) -> u32
+    ensures { let number = dearest_number (length part.old) (length path.old) work counts.doors counts.targets counts.labels in
+        Responds (part_outcome number counts.doors counts.targets) (length part.old) part.new result
+        × Responds (path_outcome number counts.labels) (length path.old) path.new result }
 {
-    let n = check(doors, targets, labels, part.len(), path.len(), work);
+    let n = check(counts, part.len(), path.len(), work);
     if n != 0 {
         return n;
     }
-    write(doors, targets, labels, part, path)
+    write(counts, part, path)
 }
 
 // Writes the dearest part and path.
@@ -71,7 +63,12 @@ pub fn dearest(
     ensures { left_both result part.new path.new work.new
         ≡ dearest_call (length part.old) (length path.old) (length work.old) doors targets labels }
 {
-    let number = answer(doors, targets, labels, part, path, work.len());
+    let counts = Counts {
+        doors,
+        targets,
+        labels,
+    };
+    let number = answer(counts, part, path, work.len());
     withhold(number, path);
     settle(number, part, work)
 }

@@ -6,6 +6,14 @@ ghost use Rattle.dearest.specs.Dearest.{counts_check};
 use files::limits::PART_WORDS;
 use files::refuse::refuse;
 
+// How many doors, outside targets and labels there are.
+#[derive(Clone, Copy)]
+pub struct Counts {
+    pub doors: u32,
+    pub targets: u32,
+    pub labels: u32,
+}
+
 // Labels of a path: a state has four bits, and state 0 is no label's.
 const MOST_LABELS: u32 = 15;
 
@@ -24,10 +32,10 @@ fn part_fits(doors: u64, targets: u64) -> bool
 }
 
 // 21: a zero, too many labels, or a part that does not fit.
-pub fn check_counts(doors: u32, targets: u32, labels: u32) -> u32
-    ensures { result ≡ counts_check doors targets labels }
+pub fn check_counts(counts: Counts) -> u32
+    ensures { result ≡ counts_check counts.doors counts.targets counts.labels }
 {
-    let some = (0 < doors) & (0 < targets) & (0 < labels);
-    let fits = part_fits(doors as u64, targets as u64);
-    refuse(21, some & (labels <= MOST_LABELS) & fits)
+    let some = (0 < counts.doors) & (0 < counts.targets) & (0 < counts.labels);
+    let fits = part_fits(u64::from(counts.doors), u64::from(counts.targets));
+    refuse(21, some & (counts.labels <= MOST_LABELS) & fits)
 }

@@ -5,12 +5,11 @@ ghost use Rattle.files.specs.Limits.{part_words};
 ghost use Rattle.output.specs.Writer.{Filed};
 ghost use Rattle.output.specs.Frame.{also, Checked, Responds};
 ghost use Rattle.draws.specs.Draws.{drawn};
-ghost use Rattle.edge_draws.specs.Bounds.{Within};
 ghost use Rattle.generator.specs.Generate.{generated, spent, bounds_check, generate_call};
 
 use crate::nodes::write_nodes;
 use draws::generator::Generator;
-use edge_draws::edges::MOST_EDGES;
+use edge_draws::edges::{Counts, MOST_EDGES};
 use files::buffer::clear;
 use files::limits::PART_WORDS;
 use files::refuse::{check_room, refuse};
@@ -43,13 +42,13 @@ fn check(nodes: u32, edges: u32, out: usize, work: usize) -> u32
 }
 
 // Writes the file. It is not over its limit, so the number is 0.
-fn write(generator: &mut Generator, nodes: u32, edges: u32, out: &mut [u8]) -> u32
-    requires { Within nodes edges × (4 * part_words ≤ length out.old) }
-    ensures { Filed part_words (length out.old) (generated (drawn generator.old.state) nodes edges) out.new result
-        × (generator.new.state ≡ spent generator.old.state nodes edges) }
+fn write(generator: &mut Generator, counts: Counts, out: &mut [u8]) -> u32
+    requires { 4 * part_words ≤ length out.old }
+    ensures { Filed part_words (length out.old) (generated (drawn generator.old.state) counts.nodes counts.edges) out.new result
+        × (generator.new.state ≡ spent generator.old.state counts.nodes counts.edges) }
 {
     clear(out);
-    let count = write_nodes(generator, nodes, edges, out, 1);
+    let count = write_nodes(generator, counts, out, 1);
     close(1, 0, 0, PART_WORDS, count, out)
 }
 
@@ -62,7 +61,7 @@ fn answer(generator: &mut Generator, nodes: u32, edges: u32, out: &mut [u8], wor
     if number != 0 {
         return number;
     }
-    write(generator, nodes, edges, out)
+    write(generator, Counts { nodes, edges }, out)
 }
 
 // Generates a whole file from the lent state.

@@ -19,8 +19,8 @@ use Rattle.files.specs.Word.{words}
 use Rattle.files.specs.Refuse.{◌then◌, ◌unless◌, size_check}
 use Rattle.files.proofs.Checks.{checks, passed_first}
 use Rattle.files.proofs.Words.{words_length}
-use Rattle.triples.specs.Triple.{Triple, triple, triples_of, root_word, triples_in, in_fields, triples_check, key_of}
-use Rattle.triples.specs.At.{triple_at, key_at, large_at}
+use Rattle.triples.specs.Triple.{Triple, triple, triples_of, root_word, triples_in, in_fields, triples_check}
+use Rattle.triples.specs.At.{triple_at, large_at}
 
 -- numbers from the next one on
 pub map_next : {A : Type 0} (f : ℕ → A) (k d : ℕ) → map f (span (suc k) d) ≡ map (λ i. f (suc i)) (span k d)
@@ -77,12 +77,6 @@ triples_at (r ∷ vs) e =
         let c : 3 * i + 3 ≡ suc (suc (suc (3 * i))) = omega arith in
         rw (a, b, c, same is)
 
--- for the proof of `is_large`
-pub large_is : (ws : List ℕ) (i : ℕ) {a b c : ℕ} → a ≡ get_or ws (3 * i + 1) 0 → b ≡ get_or ws (3 * i + 2) 0 → c ≡ get_or ws (3 * i + 3) 0
-    → not (leb a 65535 && leb b 4095 && leb c 65535) ≡ large_at ws i
-unfolding large_at
-large_is ws i p q s = rw (p, q, s)
-
 -- for the proof of `check_triples`
 pub few_triples : (limit : ℕ) (s : List ℕ) {k n : ℕ} → k ≡ 0 → k ≡ size_check limit s → limit < 65536 → n ≡ length (words s) / 3 → n < 65536
 few_triples limit s z e l q = omega (arith, words_length s, q, (simp checks at (sym e ∙ z)).1)
@@ -100,9 +94,3 @@ triples_checked limit s {n = n} {b = b} z e p q a h = passed_first _ _ z e (h �
       | inl t ↦ rw (t, a, q, triples_at ws (eqb-true (length ws % 3) 1 t), any_map (λ t. not (in_fields t)) (triple_at ws) (span 0 (length ws / 3)))
       | inr t ↦ rw t
     ]
-
--- for the proof of `key_at`
-pub key_read : (ws : List ℕ) (i : ℕ) {a b c r : ℕ} → a ≡ get_or ws (3 * i + 1) 0 → b ≡ get_or ws (3 * i + 2) 0 → c ≡ get_or ws (3 * i + 3) 0
-    → r ≡ key_of (triple a b c) → r ≡ key_at ws i
-unfolding key_at
-key_read ws i p q s e = e ∙ rw (p, q, s)

@@ -11,5 +11,5 @@ pub returns : goal.returns
 unfolding generated
 returns c =
     let a = c.args in
-    let nodes = flatten (map (node_drawn (drawn a.generator.now.state) a.nodes a.edges) (span 0 a.nodes)) in
+    let nodes = flatten (map (node_drawn (drawn a.generator.now.state) a.counts.nodes a.counts.edges) (span 0 a.counts.nodes)) in
     (filed nodes c.close.ensures c.write_nodes-count.ensures.0 c.clear.ensures (search rules), c.write_nodes-count.ensures.1)
