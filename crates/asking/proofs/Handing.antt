@@ -13,13 +13,9 @@ use Rattle.bundles.specs.declared.bundle.Trip.{Trip}
 use Rattle.path_bundles.specs.Split.{file_in}
 use Rattle.demands.specs.Question.{Call, Asking, stopped, going, call, host, ◌>>=◌}
 use Rattle.trips.specs.Calls.{site_call, hub_call}
-use Rattle.asking.specs.Run.{Said, told, handed, said, buffers, site_name, hub_name, site_asked, hub_asked}
+use Rattle.asking.specs.Run.{Said, handed, said, buffers, site_name, hub_name, site_asked, hub_asked}
 
-pub told_refused : (number end : ℕ) (out : List ℕ) → (number ≡ 0 → ⊥) → told number end out ≡ inl number
-told_refused zero end out n = absurd (n refl)
-told_refused (suc k) end out n = refl
-
-pub handed_refused : (number : ℕ) (out : List ℕ) → (number ≡ 0 → ⊥) → told number 0 out ≡ handed number out
+pub handed_refused : (number : ℕ) (out : List ℕ) → (number ≡ 0 → ⊥) → inl number ≡ handed number out
 handed_refused zero out n = absurd (n refl)
 handed_refused (suc k) out n = refl
 
@@ -27,7 +23,7 @@ take_own : (k : ℕ) (out : List ℕ) → take (length (take k out)) out ≡ tak
 take_own k out =
     ap (λ (l : List ℕ). take (length (take k out)) l) (sym (take-append-drop k out)) ∙ take-append_seam (take k out) (drop k out)
 
-pub handed_file : (number : ℕ) (out file : List ℕ) → number ≡ 0 → file ≡ file_in out → told 0 (length file) out ≡ handed number out
+pub handed_file : (number : ℕ) (out file : List ℕ) → number ≡ 0 → file ≡ file_in out → inr (take (length file) out) ≡ handed number out
 handed_file zero out file z e = ap inr (rw e (take_own (4 * size_of (get_or (words out) 0 0)) out))
 handed_file (suc k) out file z e = absurd (omega arith)
 
@@ -61,9 +57,9 @@ said_on (stopped by k) f = refl
 said_on (going bytes) f = refl
 
 -- what is handed on, by what was handed on before
-module _ (a : Asking (List ℕ)) (f : List ℕ → Asking (List ℕ)) (number end : ℕ) (out : List ℕ) (t : told number end out ≡ said a) where
-  pub ended : (end' : ℕ) (out' : List ℕ) → (number ≡ 0 → ⊥) → told number end' out' ≡ said (a >>= f)
-  ended end' out' z = told_refused number end' out' z ∙ sym (said_on a f ∙ rw (← t, told_refused number end out z))
+module _ (a : Asking (List ℕ)) (f : List ℕ → Asking (List ℕ)) where
+  pub ended : (k : ℕ) → inl k ≡ said a → inl k ≡ said (a >>= f)
+  ended k t = sym (said_on a f ∙ rw (← t))
 
-  pub went_on : number ≡ 0 → said (f (take end out)) ≡ said (a >>= f)
-  went_on z = sym (said_on a f ∙ rw (← t, z))
+  pub went_on : (bytes : List ℕ) → inr bytes ≡ said a → said (f bytes) ≡ said (a >>= f)
+  went_on bytes t = sym (said_on a f ∙ rw (← t))

@@ -1,26 +1,24 @@
 -- A trip by its bundle, and the question by its two trips.
 use mathlib.Core.Path.{◌≡◌, refl, sym, ap, ◌∙◌}
+use mathlib.Core.Logic.{inl, inr}
 use mathlib.Core.List.{List, flatten}
 use Prim.Native.Nat.{ℕ}
-use lib.ListN.{take}
 use Rattle.bundles.specs.declared.bundle.Trip.{Trip}
 use Rattle.bundles.specs.declared.bundle.Trip.TheVariants.{First, Second}
 use Rattle.demands.specs.Question.{Asking, stopped, going, Answer, each, ask, ◌>>=◌}
-use Rattle.asking.specs.Run.{told, said, slot, site_asked, hub_asked, bundled, round_trip, rooms, answer}
+use Rattle.asking.specs.Run.{said, slot, site_asked, hub_asked, bundled, round_trip, rooms, answer}
 use Rattle.asking.proofs.Handing.{ended, went_on}
 
 -- a trip; n' and m' are n and m as the hub's contract has them
-module _ (trip : Trip) (path list : List ℕ) (n m : ℕ) (parts : List (List ℕ)) (k e : ℕ) (bundle : List ℕ)
-    (t : told k e bundle ≡ said (bundled (site_asked trip path list slot m) parts)) where
-  pub round_ended : (out : List ℕ) → (k ≡ 0 → ⊥) → told k 0 out ≡ said (round_trip trip path list n m parts)
+module _ (trip : Trip) (path list : List ℕ) (n m : ℕ) (parts : List (List ℕ)) where
+  pub round_ended : (k : ℕ) → inl k ≡ said (bundled (site_asked trip path list slot m) parts) → inl k ≡ said (round_trip trip path list n m parts)
   unfolding round_trip
-  round_ended = ended (bundled (site_asked trip path list slot m) parts) (hub_asked trip n m) k e bundle t 0
+  round_ended = ended (bundled (site_asked trip path list slot m) parts) (hub_asked trip n m)
 
-  pub round_went_on : k ≡ 0 → (n' m' : ℕ) → n' ≡ n → m' ≡ m
-      → said (hub_asked trip n' m' (take e bundle)) ≡ said (round_trip trip path list n m parts)
+  pub round_went_on : (bytes : List ℕ) → inr bytes ≡ said (bundled (site_asked trip path list slot m) parts) → (n' m' : ℕ) → n' ≡ n → m' ≡ m
+      → said (hub_asked trip n' m' bytes) ≡ said (round_trip trip path list n m parts)
   unfolding round_trip
-  round_went_on z n' m' p q =
-      rw (p, q) (went_on (bundled (site_asked trip path list slot m) parts) (hub_asked trip n m) k e bundle t z)
+  round_went_on bytes t n' m' p q = rw (p, q) (went_on (bundled (site_asked trip path list slot m) parts) (hub_asked trip n m) bytes t)
 
 -- for any calls in the place of the question's
 module _ (list : List ℕ → Asking (List ℕ)) (seconds : List ℕ → Asking (List (List ℕ))) (join : List ℕ → Asking (List ℕ)) where
@@ -59,15 +57,14 @@ two_trips path n m parts none =
     sym (begun (hub_asked First n m) (λ l. each (site_asked Second path l slot m) parts) (hub_asked Second n m) (each (site_asked First path none slot m) parts))
 
 -- the question; n' and m' are n and m as the second trip's contract has them
-module _ (path none : List ℕ) (n m : ℕ) (parts : List (List ℕ)) (k e : ℕ) (out : List ℕ) (t : told k e out ≡ said (round_trip First path none n m parts)) where
-  pub ask_ended : (k ≡ 0 → ⊥) → told k e out ≡ said (answer (rooms n m) path parts)
-  ask_ended z =
-      ended (round_trip First path none n m parts) (λ list. round_trip Second path list n m parts) k e out t e out z
-      ∙ ap said (two_trips path n m parts none)
+module _ (path none : List ℕ) (n m : ℕ) (parts : List (List ℕ)) where
+  pub ask_ended : (k : ℕ) → inl k ≡ said (round_trip First path none n m parts) → inl k ≡ said (answer (rooms n m) path parts)
+  ask_ended k t =
+      ended (round_trip First path none n m parts) (λ list. round_trip Second path list n m parts) k t ∙ ap said (two_trips path n m parts none)
 
-  pub ask_went_on : k ≡ 0 → (n' m' : ℕ) → n' ≡ n → m' ≡ m
-      → said (round_trip Second path (take e out) n' m' parts) ≡ said (answer (rooms n m) path parts)
-  ask_went_on z n' m' p q =
+  pub ask_went_on : (list : List ℕ) → inr list ≡ said (round_trip First path none n m parts) → (n' m' : ℕ) → n' ≡ n → m' ≡ m
+      → said (round_trip Second path list n' m' parts) ≡ said (answer (rooms n m) path parts)
+  ask_went_on list t n' m' p q =
       rw (p, q)
-      (went_on (round_trip First path none n m parts) (λ list. round_trip Second path list n m parts) k e out t z
+      (went_on (round_trip First path none n m parts) (λ list. round_trip Second path list n m parts) list t
       ∙ ap said (two_trips path n m parts none))

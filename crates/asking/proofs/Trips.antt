@@ -10,9 +10,8 @@ use lib.ListN.{length, take}
 use Rattle.sets.specs.States.{lowest_of, Lowest, Rest}
 use Rattle.sets.proofs.Members.{states_empty, states_step}
 use Rattle.demands.specs.Question.{Asking, stopped, going, each, ◌>>=◌}
-use Rattle.asking.specs.Run.{Said, told, said, slot, bundled, part_in, parts_in}
+use Rattle.asking.specs.Run.{Said, said, slot, bundled, part_in, parts_in}
 use Rattle.asking.proofs.Spaces.{Space, space_next, front_more}
-use Rattle.asking.proofs.Handing.{told_refused}
 
 -- what is said where some bytes stand and the files of some parts follow
 abbrev pub behind : (List ℕ → Asking (List ℕ)) → List ℕ → List (List ℕ) → Said
@@ -52,25 +51,24 @@ trip_first f parts bundle work sites s = record { space = s; is = refl }
 
 module _ (g : ℕ → ℕ → List ℕ → Asking (List ℕ)) {parts bundle₀ work₀ bundle work : List ℕ} {sites end left site : ℕ}
     (t : OnTrip (g slot (length work₀)) parts bundle₀ work₀ bundle work sites end left) (p : 0 < left) (o : Lowest left site) {part : List ℕ} (q : part ≡ part_in parts site)
-    (number n : ℕ) {a b : ℕ} (reply : List ℕ) (e : told number n reply ≡ said (g a b part)) (ea : a ≡ slot) (eb : b ≡ length work) where
+    {told : Said} {a b : ℕ} (e : told ≡ said (g a b part)) (ea : a ≡ slot) (eb : b ≡ length work) where
   -- the call is the one of the trip
-  asked : told number n reply ≡ said (g slot (length work₀) (part_in parts (lowest_of left)))
+  asked : told ≡ said (g slot (length work₀) (part_in parts (lowest_of left)))
   asked = rw (← o.is, ← q, ← t.space.same_work, ← eb, ← ea) e
 
-  pub trip_refused : (number ≡ 0 → ⊥) → inl number ≡ said (bundled (g slot (length work₀)) (parts_in parts sites))
-  trip_refused z =
-      sym (behind_refused (g slot (length work₀)) (take end bundle) (part_in parts (lowest_of left)) (parts_in parts (bit_and left (left - 1))) number (sym asked ∙ told_refused number n reply z))
+  pub trip_refused : {number : ℕ} → told ≡ inl number → inl number ≡ said (bundled (g slot (length work₀)) (parts_in parts sites))
+  trip_refused {number} z =
+      sym (behind_refused (g slot (length work₀)) (take end bundle) (part_in parts (lowest_of left)) (parts_in parts (bit_and left (left - 1))) number (sym asked ∙ z))
       ∙ (rw (states_step 16 left p t.space.small) at t.is)
 
-  pub trip_next : (work' : List ℕ) (k : ℕ) {rest : ℕ} → number ≡ 0 → Rest left rest → length (put_mid end k bundle reply) ≡ length bundle → length work' ≡ length work
+  pub trip_next : (reply work' : List ℕ) (n k : ℕ) {rest : ℕ} → told ≡ inr (take n reply) → Rest left rest → length (put_mid end k bundle reply) ≡ length bundle → length work' ≡ length work
       → n ≤ slot → n ≤ length reply → OnTrip (g slot (length work₀)) parts bundle₀ work₀ (put_mid end k bundle reply) work' sites (end + n) rest
-  trip_next work' k {rest} z r u v l m =
+  trip_next reply work' n k {rest} z r u v l m =
       record {
         space = space_next (put_mid end k bundle reply) work' n t.space r u v l;
         is =
             rw (front_more end k n bundle reply (omega (arith, t.space.fits)) m)
-            (sym (behind_file (g slot (length work₀)) (take end bundle) (part_in parts (lowest_of left)) (parts_in parts rest) (take n reply)
-            (sym asked ∙ ap (λ (x : ℕ). told x n reply) z))
+            (sym (behind_file (g slot (length work₀)) (take end bundle) (part_in parts (lowest_of left)) (parts_in parts rest) (take n reply) (sym asked ∙ z))
             ∙ (rw r.list at t.is));
       }
 

@@ -1,5 +1,5 @@
 -- Inner. What calls and trips hand on, by the run of the question (`demands`, `specs/Question.antt`).
-use Rattle.std.specs.Prelude.{ℕ, zero, suc, ◌*◌, ◌⊎◌, take, drop}
+use Rattle.std.specs.Prelude.{ℕ, zero, suc, ◌*◌, ◌⊎◌, take, drop, Result, Ok, Err}
 use Rattle.std.proofs.Common.{inl, inr}
 use mathlib.Core.List.{List, map, flatten}
 use Rattle.sets.specs.States.{states_of}
@@ -14,10 +14,10 @@ use Rattle.trips.specs.Calls.{site_call, hub_call}
 abbrev pub Said : Type 0
 Said = ℕ ⊎ List ℕ
 
--- what is said by a number and, where it is 0, the bytes at the front of an output
-abbrev pub told : ℕ → ℕ → List ℕ → Said
-told zero end out = inr (take end out)
-told (suc k) end out = inl (suc k)
+-- what is said by the number of a refusal, or by how many bytes at the front of an output are handed on
+abbrev pub told : Result ℕ ℕ → List ℕ → Said
+told (Ok end) out = inr (take end out)
+told (Err k) out = inl k
 
 -- what is said by a call's number and output: where the number is 0, the file
 abbrev pub handed : ℕ → List ℕ → Said

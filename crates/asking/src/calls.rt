@@ -1,8 +1,8 @@
 // What the calls of a trip hand on. Each file is printed to `to`.
-ghost use Rattle.std.specs.Prelude.{◌≡◌, ◌≤◌, length};
+ghost use Rattle.std.specs.Prelude.{◌≡◌, ◌≤◌, length, IfOk};
 ghost use Rattle.asking.specs.Run.{told, said, site_asked, hub_asked};
 
-use crate::file::{Told, tell};
+use crate::file::tell;
 use bundles::bundle::Trip;
 use std::io::Stdout;
 use trips::calls::{hub_call, site_call};
@@ -16,20 +16,26 @@ pub fn site_file(
     calls: &[u8],
     out: &mut [u8],
     work: &mut [u8],
-) -> Told
-    ensures is { told result.number result.end out.new
+) -> Result<usize, u32>
+    ensures is { told result out.new
         ≡ said (site_asked trip path.now calls.now (length out.old) (length work.old) part.now) }
-    ensures within { result.end ≤ length out.new }
+    ensures within { IfOk result (λ end. end ≤ length out.new) }
 {
     let number = site_call(trip, part, path, calls, out, work);
     tell(to, number, out)
 }
 
 // The hub's list.
-pub fn hub_file(to: Stdout, trip: Trip, bundle: &[u8], out: &mut [u8], work: &mut [u8]) -> Told
-    ensures is { told result.number result.end out.new
+pub fn hub_file(
+    to: Stdout,
+    trip: Trip,
+    bundle: &[u8],
+    out: &mut [u8],
+    work: &mut [u8],
+) -> Result<usize, u32>
+    ensures is { told result out.new
         ≡ said (hub_asked trip (length out.old) (length work.old) bundle.now) }
-    ensures within { result.end ≤ length out.new }
+    ensures within { IfOk result (λ end. end ≤ length out.new) }
 {
     let number = hub_call(trip, bundle, out, work);
     tell(to, number, out)

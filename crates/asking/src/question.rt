@@ -1,9 +1,9 @@
 // The question's way: parts, and two trips over them.
-ghost use Rattle.std.specs.Prelude.{◌≡◌, ◌≤◌, ◌<◌, length, take};
+ghost use Rattle.std.specs.Prelude.{◌≡◌, ◌≤◌, ◌<◌, length, take, IfOk};
 ghost use Rattle.asking.specs.Run.{told, said, slot, slots, site_asked, bundled, round_trip, part_in, parts_in, rooms, answer};
 
 use crate::calls::{hub_file, site_file};
-use crate::file::{Told, tell};
+use crate::file::tell;
 use bundles::bundle::Trip;
 use files::limits::REPLY_WORDS;
 use mowqachi::mowqachi_cut;
@@ -23,13 +23,12 @@ fn cut_part(
     site: u32,
     out: &mut [u8],
     work: &mut [u8],
-) -> u32 {
+) -> Result<usize, u32> {
     let number = mowqachi_cut(whole, cuts, site, out, work);
-    tell(to, number, out);
-    number
+    tell(to, number, out)
 }
 
-// Each site's part, at the site's own place, to the first refusal; hands back the number.
+// Each site's part, at the site's own place, to the first refusal.
 pub fn cut_parts(
     to: Stdout,
     whole: &[u8],
@@ -37,7 +36,7 @@ pub fn cut_parts(
     sites: u16,
     parts: &mut [u8],
     work: &mut [u8],
-) -> u32
+) -> Result<(), u32>
     requires { slots ≤ length parts.old }
     ensures { slots ≤ length parts.new }
 {
@@ -46,13 +45,10 @@ pub fn cut_parts(
         let site = lowest(left);
         let at = site as usize * SLOT;
         let end = at + SLOT;
-        let number = cut_part(to, whole, cuts, site, &mut parts[at..end], work);
-        if number != 0 {
-            return number;
-        }
+        cut_part(to, whole, cuts, site, &mut parts[at..end], work)?;
         left = without_lowest(left);
     }
-    0
+    Ok(())
 }
 
 // A site's part, at its place.
@@ -75,31 +71,21 @@ fn gather(
     parts: &[u8],
     bundle: &mut [u8],
     work: &mut [u8],
-) -> Told
+) -> Result<usize, u32>
     requires { (slots ≤ length parts.now) × (slots ≤ length bundle.old) }
-    ensures is { told result.number result.end bundle.new
+    ensures is { told result bundle.new
         ≡ said (bundled (site_asked trip path.now calls.now slot (length work.old)) (parts_in parts.now sites)) }
-    ensures within { result.end ≤ length bundle.new }
+    ensures within { IfOk result (λ end. end ≤ length bundle.new) }
 {
     let mut end = 0;
     let mut left = sites;
     while 0 < left {
         let next = end + SLOT;
         let part = part_of(parts, lowest(left));
-        let told = site_file(to, trip, part, path, calls, &mut bundle[end..next], work);
-        if told.number != 0 {
-            return Told {
-                number: told.number,
-                end: 0,
-            };
-        }
-        end += told.end;
+        end += site_file(to, trip, part, path, calls, &mut bundle[end..next], work)?;
         left = without_lowest(left);
     }
-    Told {
-        number: 0,
-        end: end,
-    }
+    Ok(end)
 }
 
 // To the sites and back to the hub. `list` holds the calls at its front, and then what the hub makes of the replies.
@@ -113,21 +99,14 @@ fn round_trip(
     bundle: &mut [u8],
     list: &mut [u8],
     work: &mut [u8],
-) -> Told
+) -> Result<usize, u32>
     requires { (slots ≤ length parts.now) × (slots ≤ length bundle.old) × (called ≤ length list.old) }
-    ensures is { told result.number result.end list.new
+    ensures is { told result list.new
         ≡ said (round_trip trip path.now (take called list.old) (length list.old) (length work.old)
         (parts_in parts.now sites)) }
-    ensures within { result.end ≤ length list.new }
+    ensures within { IfOk result (λ end. end ≤ length list.new) }
 {
-    let replies = gather(to, trip, path, &list[..called], sites, parts, bundle, work);
-    if replies.number != 0 {
-        return Told {
-            number: replies.number,
-            end: 0,
-        };
-    }
-    let end = replies.end;
+    let end = gather(to, trip, path, &list[..called], sites, parts, bundle, work)?;
     hub_file(to, trip, &bundle[..end], list, work)
 }
 
@@ -140,21 +119,18 @@ pub fn ask(
     bundle: &mut [u8],
     list: &mut [u8],
     work: &mut [u8],
-) -> Told
+) -> Result<usize, u32>
     requires { (slots ≤ length parts.now) × (slots ≤ length bundle.old) }
-    ensures { told result.number result.end list.new
+    ensures { told result list.new
         ≡ said (answer (rooms (length list.old) (length work.old))
         path.now (parts_in parts.now sites)) }
 {
-    let first = round_trip(to, Trip::First, path, 0, sites, parts, bundle, list, work);
-    if first.number != 0 {
-        return first;
-    }
+    let called = round_trip(to, Trip::First, path, 0, sites, parts, bundle, list, work)?;
     round_trip(
         to,
         Trip::Second,
         path,
-        first.end,
+        called,
         sites,
         parts,
         bundle,

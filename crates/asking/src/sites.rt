@@ -16,14 +16,13 @@ fn with_byte(sites: u16, byte: u8) -> u16
     }
 }
 
+// The sites that a cut list names.
 pub fn sites_of(cuts: &[u8]) -> u16
     ensures { (s : ℕ) → s < 16 → has_state result s ≡ member s cuts.now }
 {
     let mut sites: u16 = 0;
-    let mut i = 0;
-    while i < cuts.len() {
-        sites = with_byte(sites, cuts[i]);
-        i += 1;
+    for byte in cuts {
+        sites = with_byte(sites, *byte);
     }
     sites
 }

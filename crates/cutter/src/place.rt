@@ -12,12 +12,6 @@ pub struct Place {
     pub other: bool,
 }
 
-fn wide(c: u8) -> u32
-    ensures { result ≡ c }
-{
-    c as u32
-}
-
 // One more word: at a node word the next cut byte says whose the words are.
 pub fn pass(cuts: &[u8], site: u32, p: Place, w: u32) -> Place
     ensures { result ≡ passed cuts.now site p w }
@@ -27,7 +21,7 @@ pub fn pass(cuts: &[u8], site: u32, p: Place, w: u32) -> Place
         return p;
     }
     if is_node(w) {
-        let own = wide(cuts[at]) == site;
+        let own = u32::from(cuts[at]) == site;
         return Place {
             cut: at + 1,
             mine: own,

@@ -33,11 +33,7 @@ fn hex_line(w: u32) -> [u8; 9]
 
 // Writes a word's line to standard output, or as much of it as goes.
 fn print_line(out: Stdout, w: u32) {
-    let line = hex_line(w);
-    match out.write_all(&line) {
-        Ok(()) => {}
-        Err(_) => {}
-    }
+    let _ = out.write_all(&hex_line(w));
 }
 
 // Writes a file's words to standard output.

@@ -1,16 +1,9 @@
 // The files that the arguments name.
-ghost use Rattle.std.specs.Prelude.{IfOk};
+ghost use Rattle.std.specs.Prelude.{IfOk, IfSome};
 ghost use Rattle.io.specs.Counts.{IsPrefixLen};
 
 use std::fs::{self, File};
 use std::io::{self, Read};
-
-// Whether a file was read, and how many bytes it put at the front of the buffer.
-#[derive(Clone, Copy)]
-pub struct Input {
-    pub read: bool,
-    pub bytes: usize,
-}
 
 // Reads to the file's end, or until the buffer is full.
 fn fill(file: &mut File, buf: &mut [u8]) -> io::Result<usize>
@@ -43,21 +36,15 @@ fn complain(rt: &HostRuntime, name: &str, error: io::Error) -> io::Result<()> {
     }
 }
 
-// Reads the file of that name. Where it cannot, standard error says why.
-pub fn load(rt: &HostRuntime, name: &str, buf: &mut [u8]) -> Input
-    ensures { IsPrefixLen result.bytes buf.new }
+// Reads the file of that name, and gives how many bytes it put at the front of the buffer. Where it cannot, standard error says why.
+pub fn load(rt: &HostRuntime, name: &str, buf: &mut [u8]) -> Option<usize>
+    ensures { IfSome result (λ n. IsPrefixLen n buf.new) }
 {
     match read_file(rt, name, buf) {
-        Ok(bytes) => Input { read: true, bytes },
+        Ok(bytes) => Some(bytes),
         Err(error) => {
-            match complain(rt, name, error) {
-                Ok(()) => {}
-                Err(_) => {}
-            }
-            Input {
-                read: false,
-                bytes: 0,
-            }
+            let _ = complain(rt, name, error);
+            None
         }
     }
 }

@@ -34,19 +34,15 @@ fn buffer() -> [u8; BUFFER] {
     [0; BUFFER]
 }
 
-// The whole question; hands back the number. A list that names no site is refused by the cutter, whichever site it is asked for.
-fn question(rt: &HostRuntime, whole: &[u8], path: &[u8], cuts: &[u8]) -> u32 {
+// The whole question, to the number that refuses. A list that names no site is refused by the cutter, whichever site it is asked for.
+fn question(rt: &HostRuntime, whole: &[u8], path: &[u8], cuts: &[u8]) -> Result<(), u32> {
     let mut parts = slots();
     let mut bundle = slots();
     let mut list = buffer();
     let mut work = buffer();
-    let named = sites_of(cuts);
-    let sites = if named == 0 { 1 } else { named };
-    let number = cut_parts(rt.stdout(), whole, cuts, sites, &mut parts, &mut work);
-    if number != 0 {
-        return number;
-    }
-    let told = ask(
+    let sites = sites_of(cuts).max(1);
+    cut_parts(rt.stdout(), whole, cuts, sites, &mut parts, &mut work)?;
+    ask(
         rt.stdout(),
         path,
         sites,
@@ -54,8 +50,8 @@ fn question(rt: &HostRuntime, whole: &[u8], path: &[u8], cuts: &[u8]) -> u32 {
         &mut bundle,
         &mut list,
         &mut work,
-    );
-    told.number
+    )?;
+    Ok(())
 }
 
 fn run(rt: &HostRuntime, first: &str, second: &str, third: &str) -> io::Result<()> {
@@ -65,14 +61,13 @@ fn run(rt: &HostRuntime, first: &str, second: &str, third: &str) -> io::Result<(
     let w = load(rt, first, &mut whole);
     let p = load(rt, second, &mut path);
     let c = load(rt, third, &mut cuts);
-    if !(w.read & p.read & c.read) {
+    let (Some(w), Some(p), Some(c)) = (w, p, c) else {
         return Ok(());
+    };
+    match question(rt, &whole[..w], &path[..p], &cuts[..c]) {
+        Ok(()) => Ok(()),
+        Err(number) => print_refusal(rt, number),
     }
-    let number = question(rt, &whole[..w.bytes], &path[..p.bytes], &cuts[..c.bytes]);
-    if number != 0 {
-        print_refusal(rt, number)?;
-    }
-    Ok(())
 }
 
 fn main(rt: HostRuntime) -> io::Result<()> {

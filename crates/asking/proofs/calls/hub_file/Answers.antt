@@ -4,6 +4,5 @@ use mathlib.Core.Path.{◌∙◌}
 use Rattle.asking.proofs.Handing.{hub_said}
 use Rattle.asking.proofs.calls.hub_file.Goals as goal
 
-pub returns : goal.returns
-returns c =
-    record { is = c.tell.ensures.is ∙ hub_said _ _ _ _ _ _ _ c.hub_call-number.ensures; within = c.tell.ensures.within }
+pub returns-clause-is : goal.returns-clause-is
+returns-clause-is c = c.tell.ensures.is ∙ hub_said _ _ _ _ _ _ _ c.hub_call-number.ensures

@@ -4,6 +4,5 @@ use mathlib.Core.Path.{◌∙◌}
 use Rattle.asking.proofs.Handing.{site_said}
 use Rattle.asking.proofs.calls.site_file.Goals as goal
 
-pub returns : goal.returns
-returns c =
-    record { is = c.tell.ensures.is ∙ site_said _ _ _ _ _ _ _ _ _ c.site_call-number.ensures; within = c.tell.ensures.within }
+pub returns-clause-is : goal.returns-clause-is
+returns-clause-is c = c.tell.ensures.is ∙ site_said _ _ _ _ _ _ _ _ _ c.site_call-number.ensures

@@ -1,32 +1,21 @@
 -- `asking::question::round_trip` meets its contract.
 -- Assumes nothing.
-use native.Mathlib.Omega.{arith}
-use mathlib.Core.Path.{refl, sym, ◌∙◌}
+use mathlib.Core.Path.{refl, ◌∙◌}
 use lib.ListN.{length, take}
-use lib.Seq.{length-take-le}
+use Rattle.std.proofs.lemmas.Result.{err_from_is_err_and}
 use Rattle.asking.specs.Run.{parts_in}
 use Rattle.asking.proofs.Runs.{round_ended, round_went_on}
 use Rattle.asking.proofs.question.round_trip.Goals as goal
 
-pub slice_bounds-gather-end-2 : goal.slice_bounds-gather-end-2
-slice_bounds-gather-end-2 c = sym (length-take-le _ _ c.requires.2)
+pub returns-in_err-end-clause-is : goal.returns-in_err-end-clause-is
+returns-in_err-end-clause-is c =
+    let a = c.args in
+    let p = err_from_is_err_and c.from_residual.result c.from_residual.ensures.1 in
+    rw (p.1, p.2) (round_ended a.trip a.path.now (take a.called a.list.now) (length a.list.now) (length a.work.now) (parts_in a.parts.now a.sites) _ c.in_err-end.ensures.is)
 
-pub returns-then-replies-ne0 : goal.returns-then-replies-ne0
-returns-then-replies-ne0 c =
-    let a = c.args in record {
-      is = round_ended a.trip a.path.now (take a.called a.list.now) (length a.list.now) (length a.work.now) (parts_in a.parts.now a.sites)
-          _ _ _ c.gather-replies.ensures.is _ c.if-replies-ne0.true;
-      within = omega arith;
-    }
-
-pub slice_bounds-hub_file-end-2 : goal.slice_bounds-hub_file-end-2
-slice_bounds-hub_file-end-2 c = sym (length-take-le _ _ c.gather-replies.ensures.within)
-
-pub returns : goal.returns
-returns c =
-    let a = c.args in record {
-      is = c.hub_file.ensures.is
-          ∙ round_went_on a.trip a.path.now (take a.called a.list.now) (length a.list.now) (length a.work.now) (parts_in a.parts.now a.sites)
-          _ _ _ c.gather-replies.ensures.is c.if-replies-ne0.false _ _ refl c.gather-replies.auto.work;
-      within = c.hub_file.ensures.within;
-    }
+pub returns-clause-is : goal.returns-clause-is
+returns-clause-is c =
+    let a = c.args in
+    c.hub_file.ensures.is
+    ∙ round_went_on a.trip a.path.now (take a.called a.list.now) (length a.list.now) (length a.work.now) (parts_in a.parts.now a.sites)
+    _ c.in_ok-end.ensures.is _ _ refl c.gather.auto.work

@@ -4,8 +4,5 @@ use borrow.Author.Rules.{rules}
 use Rattle.asking.proofs.Named.{no_site_lem}
 use Rattle.asking.proofs.sites.with_byte.Goals as goal
 
-pub returns-then-byte-lt16 : goal.returns-then-byte-lt16
-returns-then-byte-lt16 c = λ s l. c.with.ensures s
-
 pub returns-else-byte-lt16 : goal.returns-else-byte-lt16
 returns-else-byte-lt16 c = search (no_site_lem, rules)
