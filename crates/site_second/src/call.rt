@@ -1,6 +1,7 @@
 // The call for a second reply: the answers of the search from the called pairs.
 ghost use Rattle.std.specs.Prelude.{◌≡◌, [], ◌∷◌, length};
 ghost use Rattle.files.specs.Word.{words};
+ghost use Rattle.files.specs.Refusal.{number};
 ghost use Rattle.files.specs.Outcome.{left, leaves};
 ghost use Rattle.files.specs.Part.{part_check};
 ghost use Rattle.files.specs.Path.{path_check};
@@ -15,6 +16,7 @@ use crate::search::search;
 use files::buffer::clear;
 use files::field::{labels, site};
 use files::limits::REPLY_WORDS;
+use files::refusal::Refusal;
 use files::refuse::check_room;
 use files::word::word_at;
 use groups::table::{check_groups, our_groups};
@@ -27,32 +29,24 @@ use queries::path::check_path;
 use readers::part::check_part;
 use site_calls::called::check_against;
 
-// The number of the first check that fails: the buffers, part, groups, path and call list, and the call list against part and path.
-fn check(part: &[u8], groups: &[u8], path: &[u8], calls: &[u8], out: usize, work: usize) -> u32
+// The checks in their order: the buffers, part, groups, path and call list, and the call list against part and path.
+fn check(
+    part: &[u8],
+    groups: &[u8],
+    path: &[u8],
+    calls: &[u8],
+    out: usize,
+    work: usize,
+) -> Result<(), Refusal>
     ensures { Checked reply_words out work
         (input part_words part.now (part_check (words part.now)) ∷ also (groups_check groups.now) ∷ input path_words path.now (path_check (words path.now))
-        ∷ input reply_words calls.now (calls_check (words calls.now)) ∷ also (against_check (words part.now) (words path.now) (words calls.now)) ∷ []) result }
+        ∷ input reply_words calls.now (calls_check (words calls.now)) ∷ also (against_check (words part.now) (words path.now) (words calls.now)) ∷ []) (number result) }
 {
-    let room = check_room(REPLY_WORDS, out, work);
-    if room != 0 {
-        return room;
-    }
-    let a = check_part(part);
-    if a != 0 {
-        return a;
-    }
-    let g = check_groups(groups);
-    if g != 0 {
-        return g;
-    }
-    let b = check_path(path);
-    if b != 0 {
-        return b;
-    }
-    let c = check_calls(calls);
-    if c != 0 {
-        return c;
-    }
+    check_room(REPLY_WORDS, out, work)?;
+    check_part(part)?;
+    check_groups(groups)?;
+    check_path(path)?;
+    check_calls(calls)?;
     check_against(part, path, calls)
 }
 
@@ -64,11 +58,11 @@ fn write(
     calls: &[u8],
     out: &mut [u8],
     work: &mut [u8],
-) -> u32
+) -> Result<(), Refusal>
     requires { Passed reply_words (length out.old) (length work.old)
         (input part_words part.now (part_check (words part.now)) ∷ also (groups_check groups.now) ∷ input path_words path.now (path_check (words path.now))
         ∷ input reply_words calls.now (calls_check (words calls.now)) ∷ also (against_check (words part.now) (words path.now) (words calls.now)) ∷ []) }
-    ensures { Filed reply_words (length out.old) (second_reply (words part.now) (loaded (words groups.now) (words path.now)) (words calls.now)) out.new result }
+    ensures { Filed reply_words (length out.old) (second_reply (words part.now) (loaded (words groups.now) (words path.now)) (words calls.now)) out.new (number result) }
 {
     let a = position_automaton(path, groups);
     search(part, calls, a, work);
@@ -80,7 +74,7 @@ fn write(
     close(13, s, n, REPLY_WORDS, count, out)
 }
 
-// The second reply, or the number of the check that refuses.
+// The second reply, or the refusal of a check.
 fn answer(
     part: &[u8],
     groups: &[u8],
@@ -88,14 +82,11 @@ fn answer(
     calls: &[u8],
     out: &mut [u8],
     work: &mut [u8],
-) -> u32
+) -> Result<(), Refusal>
     ensures { Responds (second_reply_grouped_call (length out.old) (length work.old) part.now groups.now path.now calls.now)
-        (length out.old) out.new result }
+        (length out.old) out.new (number result) }
 {
-    let n = check(part, groups, path, calls, out.len(), work.len());
-    if n != 0 {
-        return n;
-    }
+    check(part, groups, path, calls, out.len(), work.len())?;
     write(part, groups, path, calls, out, work)
 }
 
@@ -112,8 +103,8 @@ pub fn second_reply_grouped(
         ≡ leaves (second_reply_grouped_call (length out.old) (length work.old) part.now groups.now path.now calls.now)
         (length out.old) (length work.old) }
 {
-    let number = answer(part, groups, path, calls, out, work);
-    settle(number, out, work)
+    let outcome = answer(part, groups, path, calls, out, work);
+    settle(outcome, out, work)
 }
 
 // Without groups: the same with our own.
