@@ -1,6 +1,7 @@
 // The call of planners: from the numbers of doors, outside targets and labels the part and the path whose first reply is the longest.
 ghost use Rattle.std.specs.Prelude.{◌≡◌, length};
 ghost use Rattle.files.specs.Limits.{part_words, path_words};
+ghost use Rattle.files.specs.Refusal.{number};
 ghost use Rattle.output.specs.Writer.{Filed};
 ghost use Rattle.output.specs.Frame.{Checked, Responds};
 ghost use Rattle.dearest.specs.Dearest.{dear_part, dear_path, left_both, dearest_number, dearest_call};
@@ -10,35 +11,43 @@ use crate::counts::check_counts;
 use crate::part::write_part;
 use crate::path::write_path;
 use files::limits::{PART_WORDS, PATH_WORDS};
-use files::refuse::{check_room, first};
+use files::refusal::Refusal;
+use files::refuse::check_room;
 use output::settle::{settle, withhold};
 
-// The number of the first check that fails: the buffers, the counts.
-fn check(doors: u32, targets: u32, labels: u32, part: usize, path: usize, work: usize) -> u32
-    ensures { Checked part_words part work (checks path work doors targets labels) result }
+// The checks in their order: the buffers, the counts.
+fn check(
+    doors: u32,
+    targets: u32,
+    labels: u32,
+    part: usize,
+    path: usize,
+    work: usize,
+) -> Result<(), Refusal>
+    ensures { Checked part_words part work (checks path work doors targets labels) (number result) }
 {
-    let part_room = check_room(PART_WORDS, part, work);
-    if part_room != 0 {
-        return part_room;
-    }
-    let path_room = check_room(PATH_WORDS, path, work);
-    if path_room != 0 {
-        return path_room;
-    }
+    check_room(PART_WORDS, part, work)?;
+    check_room(PATH_WORDS, path, work)?;
     check_counts(doors, targets, labels)
 }
 
-// Writes both files. Neither is over its limit, so the number is 0.
-fn write(doors: u32, targets: u32, labels: u32, part: &mut [u8], path: &mut [u8]) -> u32
+// Writes both files. Neither is over its limit, so it refuses nothing.
+fn write(
+    doors: u32,
+    targets: u32,
+    labels: u32,
+    part: &mut [u8],
+    path: &mut [u8],
+) -> Result<(), Refusal>
     requires { Writable (length part.old) (length path.old) doors targets labels }
-    ensures { Filed part_words (length part.old) (dear_part doors targets) part.new result
-        × Filed path_words (length path.old) (dear_path labels) path.new result }
+    ensures { Filed part_words (length part.old) (dear_part doors targets) part.new (number result)
+        × Filed path_words (length path.old) (dear_path labels) path.new (number result) }
 {
-    let written = write_part(doors, targets, part);
-    first(written, write_path(labels, path))
+    write_part(doors, targets, part)?;
+    write_path(labels, path)
 }
 
-// Both files, or the number of the check that refuses.
+// Both files, or the refusal of a check.
 fn answer(
     doors: u32,
     targets: u32,
@@ -46,16 +55,13 @@ fn answer(
     part: &mut [u8],
     path: &mut [u8],
     work: usize,
-) -> u32
+) -> Result<(), Refusal>
     ensures { Responds (part_outcome (dearest_number (length part.old) (length path.old) work doors targets labels) doors targets)
-        (length part.old) part.new result
+        (length part.old) part.new (number result)
         × Responds (path_outcome (dearest_number (length part.old) (length path.old) work doors targets labels) labels)
-        (length path.old) path.new result }
+        (length path.old) path.new (number result) }
 {
-    let n = check(doors, targets, labels, part.len(), path.len(), work);
-    if n != 0 {
-        return n;
-    }
+    check(doors, targets, labels, part.len(), path.len(), work)?;
     write(doors, targets, labels, part, path)
 }
 
@@ -71,7 +77,7 @@ pub fn dearest(
     ensures { left_both result part.new path.new work.new
         ≡ dearest_call (length part.old) (length path.old) (length work.old) doors targets labels }
 {
-    let number = answer(doors, targets, labels, part, path, work.len());
-    withhold(number, path);
-    settle(number, part, work)
+    let outcome = answer(doors, targets, labels, part, path, work.len());
+    withhold(outcome, path);
+    settle(outcome, part, work)
 }

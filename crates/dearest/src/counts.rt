@@ -1,10 +1,11 @@
 // Which numbers of doors, outside targets and labels are accepted.
 ghost use Rattle.std.specs.Prelude.{◌≡◌, ◌&&◌, ◌+◌, ◌*◌, ◌^◌, ◌<◌, leb};
+ghost use Rattle.files.specs.Refusal.{number};
 ghost use Rattle.files.specs.Limits.{part_words};
 ghost use Rattle.dearest.specs.Dearest.{counts_check};
 
 use files::limits::PART_WORDS;
-use files::refuse::refuse;
+use files::refusal::{Refusal, ensure};
 
 // Labels of a path: a state has four bits, and state 0 is no label's.
 const MOST_LABELS: u32 = 15;
@@ -24,10 +25,10 @@ fn part_fits(doors: u64, targets: u64) -> bool
 }
 
 // 21: a zero, too many labels, or a part that does not fit.
-pub fn check_counts(doors: u32, targets: u32, labels: u32) -> u32
-    ensures { result ≡ counts_check doors targets labels }
+pub fn check_counts(doors: u32, targets: u32, labels: u32) -> Result<(), Refusal>
+    ensures { number result ≡ counts_check doors targets labels }
 {
     let some = (0 < doors) & (0 < targets) & (0 < labels);
     let fits = part_fits(doors as u64, targets as u64);
-    refuse(21, some & (labels <= MOST_LABELS) & fits)
+    ensure(some & (labels <= MOST_LABELS) & fits, Refusal::WrongDemands)
 }
