@@ -7,11 +7,11 @@ ghost use Rattle.output.specs.Writer.{Writes};
 ghost use Rattle.cutter.specs.Cut.{marked, mine};
 
 use crate::place::{Place, pass};
-use files::cursor::{Cursor, Step};
 use files::field::{node, root, stopped};
 use files::limits::PART_WORDS;
 use files::make::node_word;
 use files::part::is_node;
+use files::word::Words;
 use output::writer::push;
 use sets::node_set::has;
 
@@ -46,19 +46,11 @@ pub fn write_words(
         mine: false,
         other: false,
     };
-    let mut cur = Cursor { at: 1 };
-    loop {
-        match cur.read(whole) {
-            Step::Word(w, next) => {
-                place = pass(cuts, site, place, w);
-                cur = next;
-                if place.mine {
-                    n = push(out, PART_WORDS, n, mark(doors, w));
-                }
-            }
-            Step::End => {
-                return n;
-            }
+    for w in Words::body(whole) {
+        place = pass(cuts, site, place, w);
+        if place.mine {
+            n = push(out, PART_WORDS, n, mark(doors, w));
         }
     }
+    n
 }

@@ -7,9 +7,9 @@ ghost use Rattle.cutter.specs.Cut.{into, elsewhere};
 
 use crate::place::{Place, pass};
 use files::buffer::clear;
-use files::cursor::{Cursor, Step};
 use files::field::target;
 use files::part::is_node;
+use files::word::Words;
 use sets::node_set::add;
 
 // Adds the target of an edge word of another site's node to the set.
@@ -33,18 +33,9 @@ fn mark_targets(whole: &[u8], cuts: &[u8], site: u32, work: &mut [u8])
         mine: false,
         other: false,
     };
-    let mut cur = Cursor { at: 1 };
-    loop {
-        match cur.read(whole) {
-            Step::Word(w, next) => {
-                place = pass(cuts, site, place, w);
-                mark_target(work, place.other, w);
-                cur = next;
-            }
-            Step::End => {
-                return;
-            }
-        }
+    for w in Words::body(whole) {
+        place = pass(cuts, site, place, w);
+        mark_target(work, place.other, w);
     }
 }
 

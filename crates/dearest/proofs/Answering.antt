@@ -5,10 +5,12 @@ use Prim.Native.Nat.{ℕ, zero, suc, ◌≤◌}
 use native.Mathlib.Omega.{arith}
 use borrow.Author.Tests.{le-leb}
 use lib.ListN.{length}
-use Rattle.files.specs.Refuse.{◌then◌, room_check}
+use Rattle.files.specs.Refuse.{room_check}
+use Rattle.files.specs.Refusal.{code}
+use Rattle.files.specs.declared.refusal.Refusal.{Refusal}
 use Rattle.files.specs.Outcome.{outcome, Left, left, leaves}
 use Rattle.files.specs.Limits.{part_words, path_words}
-use Rattle.files.proofs.Checks.{checks as number-checks, outcome_gives}
+use Rattle.files.proofs.Checks.{checks as number-checks, outcome_gives, code_some}
 use Rattle.output.specs.Writer.{Filed}
 use Rattle.output.specs.Frame.{Checked, Passed, Responds, withheld, settled}
 use Rattle.output.proofs.Frame.{passed, withholds, settles}
@@ -30,13 +32,15 @@ files_fit {D = D} {T = T} {n = n} w =
     let c = (counts_iff D T n).0 w.counts in
     (omega (arith, part_length D T, c.small), omega (arith, path_fits n c.labels, c.few))
 
-pub written : {a b D T n r x y : ℕ} {part path : List ℕ} → Writable a b D T n → Filed part_words a (dear_part D T) part x → Filed path_words b (dear_path n) path y
-    → r ≡ (x then y) → Filed part_words a (dear_part D T) part r × Filed path_words b (dear_path n) path r
-written {a} {b} {D} {T} {n} {r} {x} {y} {part} {path} w f g e =
-    let u : x ≡ 0 = f.number ∙ rw (le-leb _ _ (files_fit w).0) in
-    let v : y ≡ 0 = g.number ∙ rw (le-leb _ _ (files_fit w).1) in
-    let z : r ≡ 0 = e ∙ rw (u, v) in
-    (subst (Filed part_words a (dear_part D T) part) (u ∙ sym z) f, subst (Filed path_words b (dear_path n) path) (v ∙ sym z) g)
+-- so neither is refused
+pub part_taken : {a b D T n : ℕ} {part : List ℕ} (e : Refusal) → Writable a b D T n → Filed part_words a (dear_part D T) part (code e) → ⊥
+part_taken e w f = code_some e (f.number ∙ rw (le-leb _ _ (files_fit w).0))
+
+pub written : {a b D T n x y : ℕ} {part path : List ℕ} → Writable a b D T n → Filed part_words a (dear_part D T) part x → x ≡ 0 → Filed path_words b (dear_path n) path y
+    → Filed part_words a (dear_part D T) part y × Filed path_words b (dear_path n) path y
+written {a} {D = D} {T = T} {part = part} w f z g =
+    let y = g.number ∙ rw (le-leb _ _ (files_fit w).1) in
+    (subst (Filed part_words a (dear_part D T) part) (z ∙ sym y) f, g)
 
 -- what both outputs leave is what the call leaves
 both_left : (k a b m : ℕ) (p q : List ℕ) → (k ≡ 0 → (length p ≤ part_words) × (length q ≤ path_words))

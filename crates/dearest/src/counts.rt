@@ -1,10 +1,11 @@
 // Which numbers of doors, outside targets and labels are accepted.
 ghost use Rattle.std.specs.Prelude.{◌≡◌, ◌&&◌, ◌+◌, ◌*◌, ◌^◌, ◌<◌, leb};
+ghost use Rattle.files.specs.Refusal.{number};
 ghost use Rattle.files.specs.Limits.{part_words};
 ghost use Rattle.dearest.specs.Dearest.{counts_check};
 
 use files::limits::PART_WORDS;
-use files::refuse::refuse;
+use files::refusal::{Refusal, ensure};
 
 // How many doors, outside targets and labels there are.
 #[derive(Clone, Copy)]
@@ -32,10 +33,13 @@ fn part_fits(doors: u64, targets: u64) -> bool
 }
 
 // 21: a zero, too many labels, or a part that does not fit.
-pub fn check_counts(counts: Counts) -> u32
-    ensures { result ≡ counts_check counts.doors counts.targets counts.labels }
+pub fn check_counts(counts: Counts) -> Result<(), Refusal>
+    ensures { number result ≡ counts_check counts.doors counts.targets counts.labels }
 {
     let some = (0 < counts.doors) & (0 < counts.targets) & (0 < counts.labels);
     let fits = part_fits(u64::from(counts.doors), u64::from(counts.targets));
-    refuse(21, some & (counts.labels <= MOST_LABELS) & fits)
+    ensure(
+        some & (counts.labels <= MOST_LABELS) & fits,
+        Refusal::WrongDemands,
+    )
 }

@@ -2,6 +2,7 @@
 ghost use mathlib.Core.List.{map, flatten};
 ghost use Rattle.std.specs.Prelude.{◌+◌, ◌*◌, ◌≤◌, ◌<◌, length};
 ghost use Rattle.sets.specs.Sets.{span};
+ghost use Rattle.files.specs.Refusal.{number};
 ghost use Rattle.files.specs.Limits.{part_words};
 ghost use Rattle.output.specs.Writer.{Writes, Filed};
 ghost use Rattle.dearest.specs.Dearest.{dear_door, dear_part};
@@ -9,6 +10,7 @@ ghost use Rattle.dearest.specs.Dearest.{dear_door, dear_part};
 use files::buffer::clear;
 use files::limits::PART_WORDS;
 use files::make::{edge_word, node_word};
+use files::refusal::Refusal;
 use output::close::close;
 use output::writer::push;
 
@@ -37,9 +39,9 @@ fn write_doors(doors: u32, targets: u32, out: &mut [u8], start: usize) -> usize
 }
 
 // Writes the part.
-pub fn write_part(doors: u32, targets: u32, out: &mut [u8]) -> u32
+pub fn write_part(doors: u32, targets: u32, out: &mut [u8]) -> Result<(), Refusal>
     requires { (doors + targets ≤ 65536) × (4 * part_words ≤ length out.old) }
-    ensures { Filed part_words (length out.old) (dear_part doors targets) out.new result }
+    ensures { Filed part_words (length out.old) (dear_part doors targets) out.new (number result) }
 {
     clear(out);
     let count = write_doors(doors, targets, out, 1);

@@ -1,5 +1,6 @@
 // The dearest path: the star of an or of full ranges, in which every position may follow every other on every label.
 ghost use Rattle.std.specs.Prelude.{◌∷◌, ◌-◌, ◌*◌, ◌≤◌, ◌<◌, length};
+ghost use Rattle.files.specs.Refusal.{number};
 ghost use Rattle.files.specs.Limits.{path_words};
 ghost use Rattle.output.specs.Writer.{Writes, Filed};
 ghost use Rattle.dearest.specs.Dearest.{full_range, dear_rest, dear_path};
@@ -8,6 +9,7 @@ ghost use Rattle.dearest.specs.Answer.{range_of};
 use files::buffer::clear;
 use files::limits::PATH_WORDS;
 use files::make::{operator_word, range_word};
+use files::refusal::Refusal;
 use output::close::close;
 use output::writer::push;
 
@@ -37,9 +39,9 @@ fn write_ranges(labels: u32, out: &mut [u8], start: usize) -> usize
 }
 
 // Writes the path.
-pub fn write_path(labels: u32, out: &mut [u8]) -> u32
+pub fn write_path(labels: u32, out: &mut [u8]) -> Result<(), Refusal>
     requires { (0 < labels) × (labels < 16) × (4 * path_words ≤ length out.old) }
-    ensures { Filed path_words (length out.old) (dear_path labels) out.new result }
+    ensures { Filed path_words (length out.old) (dear_path labels) out.new (number result) }
 {
     clear(out);
     let count = write_ranges(labels, out, 1);

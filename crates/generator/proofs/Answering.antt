@@ -9,7 +9,7 @@ use Rattle.files.specs.Limits.{part_words}
 use Rattle.files.proofs.Checks.{checks}
 use Rattle.output.specs.Writer.{Filed}
 use Rattle.output.specs.Frame.{also, Checked, Passed, Responds}
-use Rattle.output.proofs.Frame.{passed, answer_refused, answer_filed, lent_kept, lent_given}
+use Rattle.output.proofs.Frame.{passed, answer_filed, lent_given}
 use Rattle.draws.specs.Draws.{drawn}
 use Rattle.edge_draws.specs.Bounds.{Within}
 use Rattle.generator.specs.Generate.{generated, spent, bounds_check, generate_call}
@@ -24,13 +24,6 @@ module _ (n e : ℕ) {a m k : ℕ} (c : Checked part_words a m (also (bounds_che
   writable z q =
       let p : Passed part_words a m (also (bounds_check n e) ∷ []) = passed z c refl refl in
       (within n e p.read.0, omega (arith, p.room.holds))
-
-  -- one refuses
-  pub responds_refused : (s : ℕ) (out : List ℕ) → (k ≡ 0 → ⊥) → Responds (generate_call a m s n e) a out k × (s ≡ lent_by (generate_call a m s n e) s (spent s n e))
-  unfolding generate_call
-  responds_refused s out h =
-      let x = room_check part_words a m then bounds_check n e in
-      (answer_refused x part_words (generated (drawn s) n e) a out c.is h, lent_kept x part_words (generated (drawn s) n e) s (spent s n e) c.is h)
 
   -- the file is written
   pub responds_written : (s : ℕ) {out : List ℕ} {r t : ℕ} → k ≡ 0 → Filed part_words a (generated (drawn s) n e) out r × (t ≡ spent s n e)

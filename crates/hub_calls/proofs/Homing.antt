@@ -44,13 +44,15 @@ roomy b few long x = record { few = omega (arith, words_length b); long = long; 
 pub cleared : (ws : List ℕ) (n : ℕ) {w w' : List ℕ} → w ≡ zeros n → Placed ws w w' → (i : ℕ) → i < bundle_words → half w' 0 i ≡ 0
 cleared ws n z p i l = p.front i l ∙ rw z (half_zero (zeros n) 0 i (zero_at n _) (zero_at n _))
 
--- a stray: 14
-pub stray_met : (ws : List ℕ) {d : ℕ} {w w' : List ℕ} {r : Bool} → Searched ws d w w' r → r ≡ true → 14 ≡ stray_check ws
-stray_met ws s t = let (c, m, n) = s.strays t in sym ((stray_given ws).1 (c, (called_lists ws).complete c m, n))
+-- 14, if there is a stray
+pub stray_said : (ws : List ℕ) {d : ℕ} {w w' : List ℕ} {r : Bool} → Searched ws d w w' r → (14 unless not r) ≡ stray_check ws
+stray_said ws {r = true} s = let (c, m, n) = s.strays refl in sym ((stray_given ws).1 (c, (called_lists ws).complete c m, n))
+stray_said ws {r = false} s = sym ((stray_iff ws).1 (λ c m. s.homely refl c ((called_lists ws).sound c m)))
 
--- none: 0, and the called pairs can be listed
-pub stray_none : (ws : List ℕ) {d : ℕ} {w w' : List ℕ} {r : Bool} → Searched ws d w w' r → r ≡ false → 0 ≡ stray_check ws
-stray_none ws s t = sym ((stray_iff ws).1 (λ c m. s.homely t c ((called_lists ws).sound c m)))
+-- if there is none, the called pairs can be listed
+pub stray_none : {r : Bool} → (14 unless not r) ≡ 0 → r ≡ false
+stray_none {r = true} e = absurd (omega (arith, e))
+stray_none {r = false} e = refl
 
 pub listable : {ws o : List ℕ} {d : ℕ} {w w' : List ℕ} {r : Bool} → Indexed ws o w d → Searched ws d w w' r → r ≡ false → Listable ws w' d
 listable x s t = record { all = x.all; places = λ k l. rw ((s.kept t).index k l) (x.places k l); called = s.called t; homely = s.homely t }

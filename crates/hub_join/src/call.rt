@@ -1,6 +1,7 @@
 // The call that joins: the nodes of the answers as a set in the working buffer, and the set as a final list.
 ghost use Rattle.std.specs.Prelude.{◌≡◌, [], ◌∷◌, length};
 ghost use Rattle.files.specs.Word.{words};
+ghost use Rattle.files.specs.Refusal.{number};
 ghost use Rattle.files.specs.Outcome.{left, leaves};
 ghost use Rattle.files.specs.Bundle.{second_bundle_check};
 ghost use Rattle.files.specs.Limits.{bundle_words, final_words};
@@ -12,26 +13,24 @@ use crate::listing::write_answers;
 use bundles::bundle::{Trip, check_bundle};
 use files::buffer::clear;
 use files::limits::FINAL_WORDS;
+use files::refusal::Refusal;
 use files::refuse::check_room;
 use kinds::mark::mark_kind;
 use output::close::close;
 use output::settle::settle;
 
-// The number of the first check that fails: the buffers, the bundle.
-fn check(bundle: &[u8], out: usize, work: &mut [u8]) -> u32
-    ensures { Checked final_words out (length work.old) (input bundle_words bundle.now (second_bundle_check (words bundle.now)) ∷ []) result }
+// The checks in their order: the buffers, the bundle.
+fn check(bundle: &[u8], out: usize, work: &mut [u8]) -> Result<(), Refusal>
+    ensures { Checked final_words out (length work.old) (input bundle_words bundle.now (second_bundle_check (words bundle.now)) ∷ []) (number result) }
 {
-    let room = check_room(FINAL_WORDS, out, work.len());
-    if room != 0 {
-        return room;
-    }
+    check_room(FINAL_WORDS, out, work.len())?;
     check_bundle(bundle, Trip::Second, work)
 }
 
-// Writes the joined list of a bundle.
-fn write(bundle: &[u8], out: &mut [u8], work: &mut [u8]) -> u32
+// Writes the joined list of a bundle. Refuses one over its limit, and no other.
+fn write(bundle: &[u8], out: &mut [u8], work: &mut [u8]) -> Result<(), Refusal>
     requires { Passed final_words (length out.old) (length work.old) (input bundle_words bundle.now (second_bundle_check (words bundle.now)) ∷ []) }
-    ensures { Filed final_words (length out.old) (joined (words bundle.now)) out.new result }
+    ensures { Filed final_words (length out.old) (joined (words bundle.now)) out.new (number result) }
 {
     clear(work);
     mark_kind(bundle, work, 14);
@@ -40,14 +39,11 @@ fn write(bundle: &[u8], out: &mut [u8], work: &mut [u8]) -> u32
     close(15, 0, 0, FINAL_WORDS, count, out)
 }
 
-// The joined list, or the number of the check that refuses.
-fn answer(bundle: &[u8], out: &mut [u8], work: &mut [u8]) -> u32
-    ensures { Responds (join_call (length out.old) (length work.old) bundle.now) (length out.old) out.new result }
+// The joined list, or the refusal of a check.
+fn answer(bundle: &[u8], out: &mut [u8], work: &mut [u8]) -> Result<(), Refusal>
+    ensures { Responds (join_call (length out.old) (length work.old) bundle.now) (length out.old) out.new (number result) }
 {
-    let n = check(bundle, out.len(), work);
-    if n != 0 {
-        return n;
-    }
+    check(bundle, out.len(), work)?;
     write(bundle, out, work)
 }
 
@@ -56,6 +52,6 @@ pub fn join(bundle: &[u8], out: &mut [u8], work: &mut [u8]) -> u32
     ensures { left result out.new work.new
         ≡ leaves (join_call (length out.old) (length work.old) bundle.now) (length out.old) (length work.old) }
 {
-    let number = answer(bundle, out, work);
-    settle(number, out, work)
+    let outcome = answer(bundle, out, work);
+    settle(outcome, out, work)
 }

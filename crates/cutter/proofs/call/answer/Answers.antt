@@ -1,33 +1,18 @@
 -- `cutter::call::answer` meets its contract. Assumes nothing.
 use borrow.Author.Rules.{rules}
-use Rattle.output.proofs.Frame.{passed, answer_refused, answer_filed}
+use Rattle.output.proofs.Frame.{passed, answer_filed, answering}
+use Rattle.files.proofs.Checks.{ok_zero}
 use Rattle.cutter.specs.Cut.{cut_call}
 use Rattle.cutter.proofs.call.answer.Goals as goal
 
-pub check-n-requires : goal.check-n-requires
+pub returns-in_err-check : goal.returns-in_err-check
 unfolding cut_call
-check-n-requires c = search rules
-
-pub shape_of-work-then-n-ne0 : goal.shape_of-work-then-n-ne0
-unfolding cut_call
-shape_of-work-then-n-ne0 c = search rules
-
-pub returns-then-n-ne0 : goal.returns-then-n-ne0
-unfolding cut_call
-returns-then-n-ne0 c = search (answer_refused, rules)
+returns-in_err-check c = search (answering, rules)
 
 pub write-requires : goal.write-requires
 unfolding cut_call
-write-requires c = search (passed, rules)
-
-pub shape_of-out : goal.shape_of-out
-unfolding cut_call
-shape_of-out c = search rules
-
-pub shape_of-work : goal.shape_of-work
-unfolding cut_call
-shape_of-work c = search rules
+write-requires c = passed (ok_zero c.in_ok-check.was) c.check.ensures (search rules) (search rules)
 
 pub returns : goal.returns
 unfolding cut_call
-returns c = search (answer_filed, rules)
+returns c = let h = c.check.ensures in answer_filed _ _ _ _ h.is (ok_zero c.in_ok-check.was) c.write.ensures

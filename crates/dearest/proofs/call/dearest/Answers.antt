@@ -6,4 +6,4 @@ use Rattle.dearest.proofs.call.dearest.Goals as goal
 pub returns : goal.returns
 returns c =
     let a = c.args in
-    settles_both a.doors a.targets a.labels _ _ _ c.answer-number.ensures (search rules) (search rules) (search rules) c.withhold.ensures c.settle.ensures
+    settles_both a.doors a.targets a.labels _ _ _ c.answer-outcome.ensures (search rules) (search rules) (search rules) c.withhold.ensures c.settle.ensures

@@ -1,13 +1,19 @@
 -- `generator::call::answer` meets its contract. Assumes nothing.
-use Rattle.generator.proofs.Answering.{responds_refused, responds_written}
+use borrow.Author.Rules.{rules}
+use Rattle.files.proofs.Checks.{ok_zero}
+use Rattle.output.proofs.Frame.{answering, lent_kept}
+use Rattle.generator.specs.Generate.{generate_call}
+use Rattle.generator.proofs.Answering.{writable, responds_written}
 use Rattle.generator.proofs.call.answer.Goals as goal
 
-pub returns-then-number-ne0 : goal.returns-then-number-ne0
-returns-then-number-ne0 c =
-    let a = c.args in
-    responds_refused a.nodes a.edges c.check-number.ensures a.generator.now.state _ c.if-number-ne0.true
+pub returns-in_err-check : goal.returns-in_err-check
+unfolding generate_call
+returns-in_err-check c = search (answering, lent_kept, rules)
+
+pub write-requires : goal.write-requires
+write-requires c = writable _ _ c.check.ensures (ok_zero c.in_ok-check.was) (search rules)
 
 pub returns : goal.returns
 returns c =
     let a = c.args in
-    responds_written a.nodes a.edges c.check-number.ensures a.generator.now.state c.if-number-ne0.false c.write.ensures
+    responds_written a.nodes a.edges c.check.ensures a.generator.now.state (ok_zero c.in_ok-check.was) c.write.ensures

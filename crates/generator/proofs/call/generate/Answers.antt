@@ -9,4 +9,4 @@ pub returns : goal.returns
 returns c =
     let a = c.args in
     let call = generate_call (length a.out.now) (length a.work.now) a.state.now a.nodes a.edges in
-    settles_lent {o = call} a.state.now (spent a.state.now a.nodes a.edges) _ _ c.answer-number.ensures (search rules) (search rules) c.settle.ensures
+    settles_lent {o = call} a.state.now (spent a.state.now a.nodes a.edges) _ _ c.answer-outcome.ensures (search rules) (search rules) c.settle.ensures

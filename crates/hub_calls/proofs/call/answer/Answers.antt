@@ -1,21 +1,22 @@
 -- `hub_calls::call::answer` meets its contract. Assumes nothing.
-use mathlib.Core.Path.{◌≡◌, refl}
-use native.Mathlib.Omega.{arith}
 use borrow.Author.Rules.{rules}
 use lib.ListN.{length}
-use Rattle.output.proofs.Frame.{passed, answer_refused, answer_filed}
+use mathlib.Core.Path.{◌≡◌}
+use Rattle.output.proofs.Frame.{passed, answer_filed, answering}
+use Rattle.files.proofs.Checks.{ok_zero}
 use Rattle.hub_calls.specs.CallList.{call_list_call}
 use Rattle.hub_calls.proofs.call.answer.Goals as goal
 
+pub returns-in_err-doors : goal.returns-in_err-doors
+unfolding call_list_call
+returns-in_err-doors c = search (answering, rules)
+
 pub write-requires-clause-passed : goal.write-requires-clause-passed
-write-requires-clause-passed c = passed refl c.in-Ok.ensures.0 (search rules) (search rules)
+write-requires-clause-passed c = passed (ok_zero c.in_ok-doors.was) c.check.ensures.checked (search rules) (search rules)
 
-pub returns-in-Ok : goal.returns-in-Ok
+pub returns : goal.returns
 unfolding call_list_call
-returns-in-Ok c =
+returns c =
     let same : length c.args.out.now ≡ length c.check.new.out = search rules in
-    answer_filed _ _ _ _ c.in-Ok.ensures.0.is refl (rw same c.write.ensures)
-
-pub returns-in-Err : goal.returns-in-Err
-unfolding call_list_call
-returns-in-Err c = answer_refused _ _ _ _ _ c.in-Err.ensures.0.is (omega (arith, c.in-Err.ensures.1))
+    let h = c.check.ensures.checked in
+    answer_filed _ _ _ _ h.is (ok_zero c.in_ok-doors.was) (rw same c.write.ensures)
