@@ -28,6 +28,6 @@ pub fn check_counts(doors: u32, targets: u32, labels: u32) -> u32
     ensures { result ≡ counts_check doors targets labels }
 {
     let some = (0 < doors) & (0 < targets) & (0 < labels);
-    let fits = part_fits(doors as u64, targets as u64);
+    let fits = part_fits(u64::from(doors), u64::from(targets));
     refuse(21, some & (labels <= MOST_LABELS) & fits)
 }
