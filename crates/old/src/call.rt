@@ -1,6 +1,7 @@
 // The old search's call: the final list of a path over a whole plant.
 ghost use Rattle.std.specs.Prelude.{◌≡◌, [], ◌∷◌, length};
 ghost use Rattle.files.specs.Word.{words};
+ghost use Rattle.files.specs.Refusal.{number};
 ghost use Rattle.files.specs.Outcome.{left, leaves};
 ghost use Rattle.files.specs.Part.{whole_check};
 ghost use Rattle.files.specs.Path.{path_check};
@@ -13,6 +14,7 @@ ghost use Rattle.old.specs.Old.{listed, old_search_call, old_search_grouped_call
 use crate::search::search;
 use files::buffer::clear;
 use files::limits::{FINAL_WORDS, PART_WORDS};
+use files::refusal::Refusal;
 use groups::table::our_groups;
 use listing::answers::write_answers;
 use output::close::close;
@@ -21,10 +23,16 @@ use paths::automaton::position_automaton;
 use whole_queries::asked::check;
 
 // Writes the final list.
-fn write(whole: &[u8], groups: &[u8], path: &[u8], out: &mut [u8], work: &mut [u8]) -> u32
+fn write(
+    whole: &[u8],
+    groups: &[u8],
+    path: &[u8],
+    out: &mut [u8],
+    work: &mut [u8],
+) -> Result<(), Refusal>
     requires { Passed final_words (length out.old) (length work.old)
         (input part_words whole.now (whole_check (words whole.now)) ∷ also (groups_check groups.now) ∷ input path_words path.now (path_check (words path.now)) ∷ []) }
-    ensures { Filed final_words (length out.old) (listed (words whole.now) (loaded (words groups.now) (words path.now))) out.new result }
+    ensures { Filed final_words (length out.old) (listed (words whole.now) (loaded (words groups.now) (words path.now))) out.new (number result) }
 {
     let a = position_automaton(path, groups);
     search(whole, a, work);
@@ -34,12 +42,18 @@ fn write(whole: &[u8], groups: &[u8], path: &[u8], out: &mut [u8], work: &mut [u
     close(15, 0, 0, FINAL_WORDS, count, out)
 }
 
-// The final list, or the number of the check that refuses.
-fn answer(whole: &[u8], groups: &[u8], path: &[u8], out: &mut [u8], work: &mut [u8]) -> u32
+// The final list, or the refusal of a check.
+fn answer(
+    whole: &[u8],
+    groups: &[u8],
+    path: &[u8],
+    out: &mut [u8],
+    work: &mut [u8],
+) -> Result<(), Refusal>
     ensures { Responds (old_search_grouped_call (length out.old) (length work.old) whole.now groups.now path.now)
-        (length out.old) out.new result }
+        (length out.old) out.new (number result) }
 {
-    let n = check(
+    check(
         FINAL_WORDS,
         PART_WORDS,
         whole,
@@ -47,10 +61,7 @@ fn answer(whole: &[u8], groups: &[u8], path: &[u8], out: &mut [u8], work: &mut [
         path,
         out.len(),
         work,
-    );
-    if n != 0 {
-        return n;
-    }
+    )?;
     write(whole, groups, path, out, work)
 }
 
@@ -66,8 +77,8 @@ pub fn old_search_grouped(
         ≡ leaves (old_search_grouped_call (length out.old) (length work.old) whole.now groups.now path.now)
         (length out.old) (length work.old) }
 {
-    let number = answer(whole, groups, path, out, work);
-    settle(number, out, work)
+    let outcome = answer(whole, groups, path, out, work);
+    settle(outcome, out, work)
 }
 
 // Without groups: the same with our own.

@@ -3,6 +3,7 @@ ghost use Rattle.std.specs.Prelude.{◌≡◌, not, ◌+◌, ◌^◌, ◌<◌, d
 ghost use Rattle.sets.specs.Sets.{any, member};
 ghost use Rattle.files.specs.Word.{words};
 ghost use Rattle.files.specs.Field.{pair_node, pair_state};
+ghost use Rattle.files.specs.Refusal.{number};
 ghost use Rattle.files.specs.Refuse.{◌unless◌};
 ghost use Rattle.files.specs.Part.{doors, part_check};
 ghost use Rattle.files.specs.Calls.{calls_check};
@@ -11,7 +12,7 @@ ghost use Rattle.site_calls.specs.Against.{called_in, against_check};
 ghost use Rattle.site_calls.specs.Called.{call_at, holds_at, shut_at, Advanced, SeededAt, SeededAll};
 
 use files::field::{door, labels, state};
-use files::refuse::{first, refuse};
+use files::refusal::{Refusal, ensure};
 use files::word::word_at;
 use part_search::search::seed;
 use slots::position::{is_node, number_at};
@@ -56,10 +57,10 @@ fn advance(part: &[u8], from: usize, x: u32) -> usize
     n
 }
 
-// 14: a called node of the part is no door. Calls and nodes ascend, so the position in the part only moves forward.
-fn check_doors(part: &[u8], calls: &[u8]) -> u32
+// Whether each called node of the part is a door. Calls and nodes ascend, so the position in the part only moves forward.
+fn check_doors(part: &[u8], calls: &[u8]) -> Result<(), Refusal>
     requires { (part_check (words part.now) ≡ 0) × (calls_check (words calls.now) ≡ 0) }
-    ensures { result ≡ (14 unless not (any (λ c. not (member (pair_node c) (doors (drop 1 (words part.now)))))
+    ensures { number result ≡ (14 unless not (any (λ c. not (member (pair_node c) (doors (drop 1 (words part.now)))))
         (called_in (drop 1 (words part.now)) (drop 1 (words calls.now))))) }
 {
     let n = calls.len() / 4;
@@ -68,19 +69,20 @@ fn check_doors(part: &[u8], calls: &[u8]) -> u32
         let x = call_node(calls, k);
         at = advance(part, at, x);
         if shut(part, at, x) {
-            return 14;
+            return Err(Refusal::Stray);
         }
     }
-    0
+    Ok(())
 }
 
-// 12 and 14: the call list against path and part.
-pub fn check_against(part: &[u8], path: &[u8], calls: &[u8]) -> u32
+// The call list against path and part: the same n, and doors only.
+pub fn check_against(part: &[u8], path: &[u8], calls: &[u8]) -> Result<(), Refusal>
     requires { (part_check (words part.now) ≡ 0) × (calls_check (words calls.now) ≡ 0) }
-    ensures { result ≡ against_check (words part.now) (words path.now) (words calls.now) }
+    ensures { number result ≡ against_check (words part.now) (words path.now) (words calls.now) }
 {
     let same = labels(word_at(calls, 0)) == labels(word_at(path, 0));
-    first(refuse(12, same), check_doors(part, calls))
+    ensure(same, Refusal::MixedReplies)?;
+    check_doors(part, calls)
 }
 
 // Marks the call at position k, if its node stands at position i. Gives the stack's height.
