@@ -15,9 +15,9 @@ ghost use Rattle.walk_rows.specs.Distances.{distance, numbered};
 ghost use Rattle.walk_links.specs.Tables.{first_base, second_base, target_at, Blank, Edged};
 ghost use Rattle.walk_distances.specs.Rounds.{Turns, Waiting, IsList, Ready, Written, Reached};
 
-use paths::automaton::Automaton;
 use sets::table::{get16, put16};
 use slots::tables::OWNER;
+use walk_links::links::Asked;
 use walk_links::tables::{FIRST, HEADS, MASK, NEXT, SECOND};
 use walk_rows::rows::{having, preceding, spread};
 
@@ -35,8 +35,7 @@ fn note(out: &mut [u8], to: usize, top: usize, j: usize, new: bool) -> usize
 
 // Handles the edge word at x, whose target has the number before v in the states f. Gives the list's length.
 fn follow_back(
-    whole: &[u8],
-    a: Automaton,
+    asked: &Asked,
     work: &mut [u8],
     out: &mut [u8],
     to: usize,
@@ -45,18 +44,18 @@ fn follow_back(
     f: u16,
     v: u16,
 ) -> usize
-    requires ready { Ready (words whole.now) a work.old out.old × IsList to × Waiting (words whole.now) work.old out.old to v top × (1 < v) }
-    requires edge { (edge_at (words whole.now) x ≡ true) × ((p : ℕ) → has_state f p ≡ (ltb p 16 && eqb (suc (half work.old 0 (16 * target_at work.old x + p))) v)) }
-    ensures turns { (done : ℕ → Bool) → Turns (words whole.now) a v work.old work.new done (λ z. done z || eqb z x) }
-    ensures written { Written (words whole.now) to v work.old work.new out.old out.new }
-    ensures waiting { Waiting (words whole.now) work.new out.new to v result }
+    requires ready { Ready (words asked.now.whole.now) asked.now.automaton work.old out.old × IsList to × Waiting (words asked.now.whole.now) work.old out.old to v top × (1 < v) }
+    requires edge { (edge_at (words asked.now.whole.now) x ≡ true) × ((p : ℕ) → has_state f p ≡ (ltb p 16 && eqb (suc (half work.old 0 (16 * target_at work.old x + p))) v)) }
+    ensures turns { (done : ℕ → Bool) → Turns (words asked.now.whole.now) asked.now.automaton v work.old work.new done (λ z. done z || eqb z x) }
+    ensures written { Written (words asked.now.whole.now) to v work.old work.new out.old out.new }
+    ensures waiting { Waiting (words asked.now.whole.now) work.new out.new to v result }
 {
     let g = get16(work, 0, 16 * x + MASK) & f;
     if g == 0 {
         return top;
     }
     let j = get16(out, OWNER, x) as usize;
-    let follow = a.follow;
+    let follow = asked.automaton.follow;
     let set = preceding(follow, g);
     let new = spread(work, j, set, v);
     note(out, to, top, j, new)
@@ -64,8 +63,7 @@ fn follow_back(
 
 // Handles the edges into the node at i, from the last of them on. Gives the list's length.
 fn visit(
-    whole: &[u8],
-    a: Automaton,
+    asked: &Asked,
     work: &mut [u8],
     out: &mut [u8],
     to: usize,
@@ -73,18 +71,18 @@ fn visit(
     i: usize,
     v: u16,
 ) -> usize
-    requires ready { Ready (words whole.now) a work.old out.old × IsList to × Waiting (words whole.now) work.old out.old to v height × (1 < v) }
-    requires node { node_at (words whole.now) i ≡ true }
-    ensures turns { (done : ℕ → Bool) → Turns (words whole.now) a v work.old work.new done
-        (λ z. done z || (edge_at (words whole.now) z && eqb (number (words whole.now) z) (number (words whole.now) i))) }
-    ensures written { Written (words whole.now) to v work.old work.new out.old out.new }
-    ensures waiting { Waiting (words whole.now) work.new out.new to v result }
+    requires ready { Ready (words asked.now.whole.now) asked.now.automaton work.old out.old × IsList to × Waiting (words asked.now.whole.now) work.old out.old to v height × (1 < v) }
+    requires node { node_at (words asked.now.whole.now) i ≡ true }
+    ensures turns { (done : ℕ → Bool) → Turns (words asked.now.whole.now) asked.now.automaton v work.old work.new done
+        (λ z. done z || (edge_at (words asked.now.whole.now) z && eqb (number (words asked.now.whole.now) z) (number (words asked.now.whole.now) i))) }
+    ensures written { Written (words asked.now.whole.now) to v work.old work.new out.old out.new }
+    ensures waiting { Waiting (words asked.now.whole.now) work.new out.new to v result }
 {
     let f = having(work, i, v - 1);
     let mut top = height;
     let mut x = get16(out, HEADS, i) as usize;
     while x != 0 {
-        top = follow_back(whole, a, work, out, to, top, x, f, v);
+        top = follow_back(asked, work, out, to, top, x, f, v);
         x = get16(work, 0, 16 * x + NEXT) as usize;
     }
     top
@@ -93,8 +91,7 @@ fn visit(
 // One round: what has no number and has a link onto the number before v gets v. The list at `from` has the nodes with that number; those with v are put
 // on the list at `to`. Gives its length.
 fn round(
-    whole: &[u8],
-    a: Automaton,
+    asked: &Asked,
     work: &mut [u8],
     out: &mut [u8],
     from: usize,
@@ -102,19 +99,19 @@ fn round(
     count: usize,
     v: u16,
 ) -> usize
-    requires ready { Ready (words whole.now) a work.old out.old × IsList from × IsList to × (from ≡ to → ⊥) × (1 < v) }
-    requires listed { (u : ℕ) → v ≡ suc u → Waiting (words whole.now) work.old out.old from u count }
-    requires unnumbered { (j : ℕ) → node_at (words whole.now) j ≡ true → numbered work.old j v ≡ false }
-    ensures turned { (e : Expr) → Automates a e → (y k : ℕ) → v ≡ suc (suc k)
-        → Turned holds (runs_in (drop 1 (words whole.now))) (drop 1 (words whole.now)) e y k
-        (distance (words whole.now) work.old) (distance (words whole.now) work.new) }
-    ensures written { Written (words whole.now) to v work.old work.new out.old out.new }
-    ensures waiting { Waiting (words whole.now) work.new out.new to v result }
+    requires ready { Ready (words asked.now.whole.now) asked.now.automaton work.old out.old × IsList from × IsList to × (from ≡ to → ⊥) × (1 < v) }
+    requires listed { (u : ℕ) → v ≡ suc u → Waiting (words asked.now.whole.now) work.old out.old from u count }
+    requires unnumbered { (j : ℕ) → node_at (words asked.now.whole.now) j ≡ true → numbered work.old j v ≡ false }
+    ensures turned { (e : Expr) → Automates asked.now.automaton e → (y k : ℕ) → v ≡ suc (suc k)
+        → Turned holds (runs_in (drop 1 (words asked.now.whole.now))) (drop 1 (words asked.now.whole.now)) e y k
+        (distance (words asked.now.whole.now) work.old) (distance (words asked.now.whole.now) work.new) }
+    ensures written { Written (words asked.now.whole.now) to v work.old work.new out.old out.new }
+    ensures waiting { Waiting (words asked.now.whole.now) work.new out.new to v result }
 {
     let mut top = 0;
     for k in 0..count {
         let i = get16(out, from, k) as usize;
-        top = visit(whole, a, work, out, to, top, i, v);
+        top = visit(asked, work, out, to, top, i, v);
     }
     top
 }
@@ -127,21 +124,14 @@ fn other(base: usize) -> usize
 }
 
 // Rounds until the node at `root` has a number in state 0, or no number is new: by how many links it arrives, if it does.
-fn rounds(
-    whole: &[u8],
-    a: Automaton,
-    work: &mut [u8],
-    out: &mut [u8],
-    root: usize,
-    height: usize,
-) -> Option<u16>
-    requires ready { Ready (words whole.now) a work.old out.old × (node_at (words whole.now) root ≡ true) × ((e : Expr) × Automates a e) }
-    requires first_round { (y : ℕ) × ((e : Expr) → Automates a e → Round holds (runs_in (drop 1 (words whole.now))) (drop 1 (words whole.now)) e y 0 (distance (words whole.now) work.old)) }
-    requires waiting { Waiting (words whole.now) work.old out.old first_base 1 height }
-    ensures reached { (y : ℕ) (e : Expr) → Automates a e
-        → Round holds (runs_in (drop 1 (words whole.now))) (drop 1 (words whole.now)) e y 0 (distance (words whole.now) work.old)
-        → Reached (words whole.now) e y work.new (number (words whole.now) root) result }
-    ensures edged { Edged (words whole.now) a work.new }
+fn rounds(asked: &Asked, work: &mut [u8], out: &mut [u8], root: usize, height: usize) -> Option<u16>
+    requires ready { Ready (words asked.now.whole.now) asked.now.automaton work.old out.old × (node_at (words asked.now.whole.now) root ≡ true) × ((e : Expr) × Automates asked.now.automaton e) }
+    requires first_round { (y : ℕ) × ((e : Expr) → Automates asked.now.automaton e → Round holds (runs_in (drop 1 (words asked.now.whole.now))) (drop 1 (words asked.now.whole.now)) e y 0 (distance (words asked.now.whole.now) work.old)) }
+    requires waiting { Waiting (words asked.now.whole.now) work.old out.old first_base 1 height }
+    ensures reached { (y : ℕ) (e : Expr) → Automates asked.now.automaton e
+        → Round holds (runs_in (drop 1 (words asked.now.whole.now))) (drop 1 (words asked.now.whole.now)) e y 0 (distance (words asked.now.whole.now) work.old)
+        → Reached (words asked.now.whole.now) e y work.new (number (words asked.now.whole.now) root) result }
+    ensures edged { Edged (words asked.now.whole.now) asked.now.automaton work.new }
 {
     let mut from = FIRST;
     let mut count = height;
@@ -156,27 +146,20 @@ fn rounds(
         }
         v += 1;
         let to = other(from);
-        count = round(whole, a, work, out, from, to, count, v);
+        count = round(asked, work, out, from, to, count, v);
         from = to;
     }
 }
 
 // Measures the distances to the node at i, as far as the root needs them: by how many links the root arrives there, if it does.
-pub fn measure(
-    whole: &[u8],
-    a: Automaton,
-    work: &mut [u8],
-    out: &mut [u8],
-    i: usize,
-    root: usize,
-) -> Option<u16>
-    requires ready { Ready (words whole.now) a work.old out.old × Blank (words whole.now) work.old × ((e : Expr) × Automates a e) }
-    requires nodes { (node_at (words whole.now) i ≡ true) × (node_at (words whole.now) root ≡ true) }
-    ensures reached { (e : Expr) → Automates a e
-        → Reached (words whole.now) e (number (words whole.now) i) work.new (number (words whole.now) root) result }
-    ensures edged { Edged (words whole.now) a work.new }
+pub fn measure(asked: &Asked, work: &mut [u8], out: &mut [u8], i: usize, root: usize) -> Option<u16>
+    requires ready { Ready (words asked.now.whole.now) asked.now.automaton work.old out.old × Blank (words asked.now.whole.now) work.old × ((e : Expr) × Automates asked.now.automaton e) }
+    requires nodes { (node_at (words asked.now.whole.now) i ≡ true) × (node_at (words asked.now.whole.now) root ≡ true) }
+    ensures reached { (e : Expr) → Automates asked.now.automaton e
+        → Reached (words asked.now.whole.now) e (number (words asked.now.whole.now) i) work.new (number (words asked.now.whole.now) root) result }
+    ensures edged { Edged (words asked.now.whole.now) asked.now.automaton work.new }
 {
-    let new = spread(work, i, a.accepts, 1);
+    let new = spread(work, i, asked.automaton.accepts, 1);
     let height = note(out, FIRST, 0, i, new);
-    rounds(whole, a, work, out, root, height)
+    rounds(asked, work, out, root, height)
 }

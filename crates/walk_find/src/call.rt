@@ -24,12 +24,12 @@ use kinds::count::Mark;
 use kinds::find::find_kind;
 use output::close::close;
 use output::settle::settle;
-use paths::automaton::{Automaton, position_automaton};
+use paths::automaton::position_automaton;
 use slots::layout::node_position;
 use slots::position::is_stopped;
 use walk_choice::choosing::Rows;
 use walk_distances::rounds::measure;
-use walk_links::links::link;
+use walk_links::links::Asked;
 use whole_queries::asked::check as check_inputs;
 
 // Where the best walk starts, and how many links it has.
@@ -40,34 +40,33 @@ pub struct Best {
 }
 
 // Measures the distances to the node: how the best walk goes from the root, if one does.
-fn find(whole: &[u8], a: Automaton, node: u32, out: &mut [u8], work: &mut [u8]) -> Option<Best>
-    requires { Measurable (words whole.now) work.old out.old × ((e : Expr) × Automates a e) }
-    ensures measured { (path : List ℕ) → Automates a (expr_of (drop 1 path)) → Measured (words whole.now) path node work.new result }
-    ensures edged { IfSome result (λ best. Edged (words whole.now) a work.new × (node_at (words whole.now) best.root ≡ true)) }
+fn find(asked: &Asked, node: u32, out: &mut [u8], work: &mut [u8]) -> Option<Best>
+    requires { Measurable (words asked.now.whole.now) work.old out.old × ((e : Expr) × Automates asked.now.automaton e) }
+    ensures measured { (path : List ℕ) → Automates asked.now.automaton (expr_of (drop 1 path)) → Measured (words asked.now.whole.now) path node work.new result }
+    ensures edged { IfSome result (λ best. Edged (words asked.now.whole.now) asked.now.automaton work.new × (node_at (words asked.now.whole.now) best.root ≡ true)) }
 {
-    link(whole, a, work, out);
-    let root = find_kind(whole, 2, Mark::Bit17);
-    let i = node_position(whole, out, node);
-    if (i == 0) | is_stopped(whole, root) {
+    asked.link(work, out);
+    let root = find_kind(asked.whole, 2, Mark::Bit17);
+    let i = node_position(asked.whole, out, node);
+    if (i == 0) | is_stopped(asked.whole, root) {
         return None;
     }
-    let links = measure(whole, a, work, out, i, root)?;
+    let links = measure(asked, work, out, i, root)?;
     Some(Best { root, links })
 }
 
 // Writes the file of the walk that the distances choose.
-fn write(whole: &[u8], a: Automaton, root: usize, links: u16, out: &mut [u8], work: &[u8]) -> u32
-    requires { Measurable (words whole.now) work.now out.old × Edged (words whole.now) a work.now × (node_at (words whole.now) root ≡ true) }
-    ensures { (e : Expr) → Automates a e
-        → Filed walk_words (length out.old) (walk_file (links_by (words whole.now) work.now e root links)) out.new result }
+fn write(asked: &Asked, best: Best, out: &mut [u8], work: &[u8]) -> u32
+    requires { Measurable (words asked.now.whole.now) work.now out.old × Edged (words asked.now.whole.now) asked.now.automaton work.now × (node_at (words asked.now.whole.now) best.root ≡ true) }
+    ensures { (e : Expr) → Automates asked.now.automaton e
+        → Filed walk_words (length out.old) (walk_file (links_by (words asked.now.whole.now) work.now e best.root best.links)) out.new result }
 {
     clear(out);
     let rows = Rows {
-        whole,
-        automaton: a,
+        asked: *asked,
         work,
     };
-    let count = rows.write_links(root, links, out, 1);
+    let count = rows.write_links(best.root, best.links, out, 1);
     close(0, 0, 0, WALK_WORDS, count, out)
 }
 
@@ -78,9 +77,10 @@ fn show(whole: &[u8], groups: &[u8], path: &[u8], node: u32, out: &mut [u8], wor
     ensures { Responds (walk_grouped_call (length out.old) (length work.old) whole.now groups.now path.now node)
         (length out.old) out.new result }
 {
-    let a = position_automaton(path, groups);
-    match find(whole, a, node, out, work) {
-        Some(best) => write(whole, a, best.root, best.links, out, work),
+    let automaton = position_automaton(path, groups);
+    let asked = Asked { whole, automaton };
+    match find(&asked, node, out, work) {
+        Some(best) => write(&asked, best, out, work),
         None => 20,
     }
 }

@@ -13,7 +13,7 @@ rounds-requires c =
     let listed = c.note-height.ensures in
     record {
       ready = (first_ready ready blank node new.hit new.tells listed.0 listed.1, c.requires.nodes.1, c.requires.ready.2);
-      first_round = (number (words c.args.whole.now) c.args.i, first_round ready blank node new.hit new.tells listed.0 listed.1);
+      first_round = (number (words c.args.asked.now.whole.now) c.args.i, first_round ready blank node new.hit new.tells listed.0 listed.1);
       waiting = first_waiting ready blank node new.hit new.tells listed.0 listed.1;
     }
 
@@ -22,7 +22,7 @@ returns c =
     let new = c.spread-new.ensures in
     let listed = c.note-height.ensures in
     record {
-      reached = λ e k. c.rounds.ensures.reached (number (words c.args.whole.now) c.args.i) e k
+      reached = λ e k. c.rounds.ensures.reached (number (words c.args.asked.now.whole.now) c.args.i) e k
           (first_round c.requires.ready.0 c.requires.ready.1 c.requires.nodes.0 new.hit new.tells listed.0 listed.1 e k);
       edged = c.rounds.ensures.edged;
     }

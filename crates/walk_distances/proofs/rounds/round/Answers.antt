@@ -5,7 +5,7 @@ use Rattle.walk_distances.proofs.rounds.round.Goals as goal
 
 pub loop-k-init : goal.loop-k-init
 loop-k-init c =
-    rounding_first (words c.args.whole.now) c.args.a c.args.from c.args.to c.args.v c.args.work.now c.args.out.now c.requires.unnumbered
+    rounding_first (words c.args.asked.now.whole.now) c.args.asked.now.automaton c.args.from c.args.to c.args.v c.args.work.now c.args.out.now c.requires.unnumbered
 
 pub get16-i-requires : goal.get16-i-requires
 get16-i-requires c =

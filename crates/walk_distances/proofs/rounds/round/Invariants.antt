@@ -4,4 +4,4 @@ use Rattle.walk_distances.proofs.Passing.{Rounding}
 use Rattle.walk_distances.proofs.rounds.round.Given as goal
 
 abbrev pub invariant-loop-k : goal.invariant-loop-k
-invariant-loop-k l = Rounding (words l.whole) l.a l.from l.to l.v l.initial.work l.work l.initial.out l.out l.top l.k
+invariant-loop-k l = Rounding (words l.asked.whole.now) l.asked.automaton l.from l.to l.v l.initial.work l.work l.initial.out l.out l.top l.k

@@ -5,7 +5,7 @@ use Rattle.walk_distances.proofs.Measuring.{Going}
 use Rattle.walk_distances.proofs.rounds.rounds.Given as goal
 
 abbrev pub invariant-rounds : goal.invariant-rounds
-invariant-rounds l = Going (words l.whole) l.a l.initial.work l.work l.initial.out l.out l.from l.count l.v
+invariant-rounds l = Going (words l.asked.whole.now) l.asked.automaton l.initial.work l.work l.initial.out l.out l.from l.count l.v
 
 abbrev pub decreases-rounds : goal.decreases-rounds
 decreases-rounds l = 16387 - l.v

@@ -4,7 +4,7 @@ use Rattle.walk_distances.proofs.Chaining.{Visiting}
 use Rattle.walk_distances.proofs.rounds.visit.Given as goal
 
 abbrev pub invariant-loop-x : goal.invariant-loop-x
-invariant-loop-x l = Visiting (words l.whole) l.a l.to l.v l.i l.initial.work l.work l.initial.out l.out l.top l.x
+invariant-loop-x l = Visiting (words l.asked.whole.now) l.asked.automaton l.to l.v l.i l.initial.work l.work l.initial.out l.out l.top l.x
 
 abbrev pub decreases-loop-x : goal.decreases-loop-x
 decreases-loop-x l = l.x

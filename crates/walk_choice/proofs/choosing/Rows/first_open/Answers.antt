@@ -28,5 +28,5 @@ loop-x-preserved c = passing_more c.loop-x.invariant (sym c.is_edge.ensures ∙ 
 
 pub returns-clause-first_open : goal.returns-clause-first_open
 returns-clause-first_open c =
-    let ends : length (words c.args.self.now.whole.now) ≤ c.loop-x.x = omega (arith, words_length c.args.self.now.whole.now, c.loop-x-test.false) in
+    let ends : length (words c.args.self.now.asked.whole.now) ≤ c.loop-x.x = omega (arith, words_length c.args.self.now.asked.whole.now, c.loop-x-test.false) in
     passing_last c.loop-x.invariant (front_end _ _ ends)

@@ -4,4 +4,4 @@ use Rattle.walk_choice.proofs.Picking.{Passing}
 use Rattle.walk_choice.proofs.choosing.Rows.first_open.Given as goal
 
 abbrev pub invariant-loop-x : goal.invariant-loop-x
-invariant-loop-x l = Passing (words l.self.whole.now) l.self.automaton l.self.work.now l.u l.v l.i l.x
+invariant-loop-x l = Passing (words l.self.asked.whole.now) l.self.asked.automaton l.self.work.now l.u l.v l.i l.x
