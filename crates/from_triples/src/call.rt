@@ -1,6 +1,7 @@
 // The call from triples: the ends of the triples go into a set of nodes, the triples into a queue, and both are gone through together.
 ghost use Rattle.std.specs.Prelude.{◌≡◌, [], ◌∷◌, ◌≤◌, length};
 ghost use Rattle.files.specs.Word.{words};
+ghost use Rattle.files.specs.Refusal.{number};
 ghost use Rattle.files.specs.Outcome.{left, leaves};
 ghost use Rattle.files.specs.Limits.{part_words, triple_words, work_bytes};
 ghost use Rattle.output.specs.Writer.{Filed};
@@ -13,6 +14,7 @@ use crate::ends::{NODES, add_all};
 use crate::nodes::write_nodes;
 use files::buffer::clear;
 use files::limits::PART_WORDS;
+use files::refusal::Refusal;
 use files::refuse::check_room;
 use files::word::word_at;
 use output::close::close;
@@ -21,14 +23,11 @@ use sets::node_set::add;
 use triple_queue::queue::build;
 use triples::check::{check_triples, count_triples};
 
-// The number of the first check that fails: the buffers, the triples.
-fn check(triples: &[u8], out: usize, work: usize) -> u32
-    ensures { Checked part_words out work (input triple_words triples.now (triples_check (words triples.now)) ∷ []) result }
+// The checks in their order: the buffers, the triples.
+fn check(triples: &[u8], out: usize, work: usize) -> Result<(), Refusal>
+    ensures { Checked part_words out work (input triple_words triples.now (triples_check (words triples.now)) ∷ []) (number result) }
 {
-    let room = check_room(PART_WORDS, out, work);
-    if room != 0 {
-        return room;
-    }
+    check_room(PART_WORDS, out, work)?;
     check_triples(triples)
 }
 
@@ -45,10 +44,10 @@ fn prepare(triples: &[u8], work: &mut [u8]) -> usize
     n
 }
 
-// Writes the whole file.
-fn write(triples: &[u8], out: &mut [u8], work: &mut [u8]) -> u32
+// Writes the whole file. Refuses one over its limit, and no other.
+fn write(triples: &[u8], out: &mut [u8], work: &mut [u8]) -> Result<(), Refusal>
     requires { Passed part_words (length out.old) (length work.old) (input triple_words triples.now (triples_check (words triples.now)) ∷ []) }
-    ensures { Filed part_words (length out.old) (from_triples (words triples.now)) out.new result }
+    ensures { Filed part_words (length out.old) (from_triples (words triples.now)) out.new (number result) }
 {
     let n = prepare(triples, work);
     clear(out);
@@ -56,14 +55,11 @@ fn write(triples: &[u8], out: &mut [u8], work: &mut [u8]) -> u32
     close(1, 0, 0, PART_WORDS, count, out)
 }
 
-// The whole file, or the number of the check that refuses.
-fn answer(triples: &[u8], out: &mut [u8], work: &mut [u8]) -> u32
-    ensures { Responds (from_call (length out.old) (length work.old) triples.now) (length out.old) out.new result }
+// The whole file, or the refusal of a check.
+fn answer(triples: &[u8], out: &mut [u8], work: &mut [u8]) -> Result<(), Refusal>
+    ensures { Responds (from_call (length out.old) (length work.old) triples.now) (length out.old) out.new (number result) }
 {
-    let n = check(triples, out.len(), work.len());
-    if n != 0 {
-        return n;
-    }
+    check(triples, out.len(), work.len())?;
     write(triples, out, work)
 }
 
@@ -73,6 +69,6 @@ pub fn from_triples(triples: &[u8], out: &mut [u8], work: &mut [u8]) -> u32
         (from_call (length out.old) (length work.old) triples.now)
         (length out.old) (length work.old) }
 {
-    let number = answer(triples, out, work);
-    settle(number, out, work)
+    let outcome = answer(triples, out, work);
+    settle(outcome, out, work)
 }

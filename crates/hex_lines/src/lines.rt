@@ -3,7 +3,7 @@ ghost use Rattle.std.specs.Prelude.{◌≡◌, ◌%◌};
 ghost use Rattle.io.specs.Digits.{hex_digit_ascii};
 ghost use Rattle.hex_lines.specs.Hex.{hex_line};
 
-use files::cursor::{Cursor, Step};
+use files::word::Words;
 use std::io::{Print, Stdout};
 
 // The lowest digit.
@@ -38,16 +38,7 @@ fn print_line(out: Stdout, w: u32) {
 
 // Writes a file's words to standard output.
 pub fn print_words(out: Stdout, file: &[u8]) {
-    let mut cur = Cursor { at: 0 };
-    loop {
-        match cur.read(file) {
-            Step::Word(w, next) => {
-                print_line(out, w);
-                cur = next;
-            }
-            Step::End => {
-                return;
-            }
-        }
+    for w in Words::of(file) {
+        print_line(out, w);
     }
 }

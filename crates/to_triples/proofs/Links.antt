@@ -5,16 +5,10 @@ use mathlib.Core.Bool.{Bool, true, false}
 use mathlib.Core.List.{List, [], ◌∷◌, ◌++◌, append-nil, append_assoc}
 use Prim.Native.Nat.{ℕ}
 use native.Mathlib.Omega.{arith}
-use lib.ListN.{length, drop}
-use Rattle.files.specs.declared.cursor.Cursor.{Cursor}
-use Rattle.files.specs.declared.cursor.Step.{Step}
-use Rattle.files.specs.declared.cursor.Step.TheVariants.{Word, End}
-use Rattle.files.specs.Word.{words}
-use Rattle.files.specs.Read.{read_at}
+use lib.ListN.{length}
 use Rattle.files.specs.Field.{node_of, label_of, target_of}
 use Rattle.files.specs.Part.{is_node}
 use Rattle.files.specs.Limits.{triple_words}
-use Rattle.files.proofs.Reading.{taken, ended}
 use Rattle.output.specs.Writer.{Writes}
 use Rattle.output.proofs.Writing.{Adding, adding_more, behind}
 use Rattle.triples.specs.Triple.{keys_from, words_of, source_in, label_in, target_in, link_of}
@@ -37,30 +31,30 @@ link_words x w ks =
 
 -- All triples
 
--- some are written behind those that were there, and with those from word k on, of which the first are of node x, they are all
-pub record Listing (s d : List ℕ) (start : ℕ) (out : List ℕ) (x n k : ℕ) : Type 0 where
+-- some are written behind those that were there, and with those of the words ws that are left, of which the first are of node x, they are
+-- those of all words us
+pub record Listing (us d : List ℕ) (start : ℕ) (out : List ℕ) (x n : ℕ) (ws : List ℕ) : Type 0 where
   pub done : List ℕ
   pub adding : Adding triple_words d start out n done
-  pub same : done ++ words_of (keys_from x (drop k (words s))) ≡ words_of (keys_from 0 (drop 1 (words s)))
+  pub same : done ++ words_of (keys_from x ws) ≡ words_of (keys_from 0 us)
 
-module _ {s d a : List ℕ} {start x n k w : ℕ} {c : Cursor} {r : Step} {b : Bool} (f : Listing s d start a x n k) (q : r ≡ Word w c) (e : r ≡ read_at s k) (h : b ≡ is_node w) where
-  next : f.done ++ words_of (keys_from x (w ∷ drop c.at (words s))) ≡ words_of (keys_from 0 (drop 1 (words s)))
-  next = rw (taken {s = s} {k = k} q e).left at f.same
+module _ {us d a vs ws : List ℕ} {start x n w : ℕ} {b : Bool} (f : Listing us d start a x n vs) (e : vs ≡ w ∷ ws) (h : b ≡ is_node w) where
+  next : f.done ++ words_of (keys_from x (w ∷ ws)) ≡ words_of (keys_from 0 us)
+  next = rw e at f.same
 
-  pub listing_node : {y : ℕ} → b ≡ true → y ≡ node_of w → Listing s d start a y n c.at
+  pub listing_node : {y : ℕ} → b ≡ true → y ≡ node_of w → Listing us d start a y n ws
   listing_node t g = record { done = f.done; adding = f.adding; same = rw g (rw (← h, t) at next) }
 
   pub listing_edge : {m : ℕ} {o : List ℕ} → b ≡ false → Writes triple_words (length a) a n o m (x ∷ label_of w ∷ target_of w ∷ []) → length o ≡ length a
-      → Listing s d start o x m c.at
+      → Listing us d start o x m ws
   listing_edge t g l = record {
     done = f.done ++ x ∷ label_of w ∷ target_of w ∷ [];
     adding = adding_more (x ∷ label_of w ∷ target_of w ∷ []) f.adding l g;
     same =
-        append_assoc f.done (x ∷ label_of w ∷ target_of w ∷ []) (words_of (keys_from x (drop c.at (words s))))
-        ∙ ap (f.done ++◌) (sym (link_words x w (keys_from x (drop c.at (words s)))))
+        append_assoc f.done (x ∷ label_of w ∷ target_of w ∷ []) (words_of (keys_from x ws))
+        ∙ ap (f.done ++◌) (sym (link_words x w (keys_from x ws)))
         ∙ (rw (← h, t) at next);
   }
 
-pub listing_last : {s d a : List ℕ} {start x n k : ℕ} {r : Step} → Listing s d start a x n k → r ≡ End → r ≡ read_at s k
-    → Writes triple_words (length d) d start a n (words_of (keys_from 0 (drop 1 (words s))))
-listing_last {s} {k = k} f q e = let h = rw ((ended {s = s} {k = k} q e).none, append-nil) at f.same in rw (← h) f.adding.written
+pub listing_last : {us d a vs : List ℕ} {start x n : ℕ} → Listing us d start a x n vs → vs ≡ [] → Writes triple_words (length d) d start a n (words_of (keys_from 0 us))
+listing_last f e = let h = rw (e, append-nil) at f.same in rw (← h) f.adding.written

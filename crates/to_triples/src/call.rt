@@ -1,6 +1,7 @@
 // The call to triples: the root, then the triples, and how many words they are.
 ghost use Rattle.std.specs.Prelude.{◌≡◌, [], ◌∷◌, ◌*◌, ◌≤◌, length};
 ghost use Rattle.files.specs.Word.{words};
+ghost use Rattle.files.specs.Refusal.{number};
 ghost use Rattle.files.specs.Outcome.{padded, left, left_lent, lent_by};
 ghost use Rattle.files.specs.Part.{whole_check};
 ghost use Rattle.files.specs.Limits.{part_words, triple_words};
@@ -13,6 +14,7 @@ use crate::say::check_said;
 use files::buffer::clear;
 use files::field::node;
 use files::limits::TRIPLE_WORDS;
+use files::refusal::Refusal;
 use files::refuse::check_room;
 use files::word::word_at;
 use kinds::count::Mark;
@@ -21,19 +23,13 @@ use output::settle::settle;
 use output::writer::push;
 use wholes::whole::check_whole;
 
-// The number of the first check that fails: the buffers, the whole, what triples can't say.
-fn check(whole: &[u8], out: usize, work: &mut [u8]) -> u32
+// The checks in their order: the buffers, the whole, what triples can't say.
+fn check(whole: &[u8], out: usize, work: &mut [u8]) -> Result<(), Refusal>
     ensures { Checked triple_words out (length work.old)
-        (input part_words whole.now (whole_check (words whole.now)) ∷ also (say_check (words whole.now)) ∷ []) result }
+        (input part_words whole.now (whole_check (words whole.now)) ∷ also (say_check (words whole.now)) ∷ []) (number result) }
 {
-    let room = check_room(TRIPLE_WORDS, out, work.len());
-    if room != 0 {
-        return room;
-    }
-    let n = check_whole(whole, work);
-    if n != 0 {
-        return n;
-    }
+    check_room(TRIPLE_WORDS, out, work.len())?;
+    check_whole(whole, work)?;
     check_said(whole, work)
 }
 
@@ -48,18 +44,15 @@ fn write(whole: &[u8], out: &mut [u8]) -> usize
     write_triples(whole, out, count)
 }
 
-// The triples and their count, or the number of the check that refuses, and the count 0.
-fn answer(whole: &[u8], out: &mut [u8], count: &mut u32, work: &mut [u8]) -> u32
-    ensures { Responds (to_call (length out.old) (length work.old) whole.now) (length out.old) out.new result
+// The triples and their count, or the refusal of a check and the count 0.
+fn answer(whole: &[u8], out: &mut [u8], count: &mut u32, work: &mut [u8]) -> Result<(), Refusal>
+    ensures { Responds (to_call (length out.old) (length work.old) whole.now) (length out.old) out.new (number result)
         × (count.new ≡ lent_by (to_call (length out.old) (length work.old) whole.now) 0 (length (to_triples (words whole.now)))) }
 {
     *count = 0;
-    let number = check(whole, out.len(), work);
-    if number != 0 {
-        return number;
-    }
+    check(whole, out.len(), work)?;
     *count = write(whole, out) as u32;
-    0
+    Ok(())
 }
 
 // Turns a whole file into a triple file.
@@ -67,6 +60,6 @@ pub fn to_triples(whole: &[u8], out: &mut [u8], count: &mut u32, work: &mut [u8]
     ensures { left_lent count.new (left result out.new work.new)
         ≡ leaves_counted (length out.old) (length work.old) whole.now }
 {
-    let number = answer(whole, out, count, work);
-    settle(number, out, work)
+    let outcome = answer(whole, out, count, work);
+    settle(outcome, out, work)
 }

@@ -6,10 +6,10 @@ ghost use Rattle.files.specs.Limits.{triple_words};
 ghost use Rattle.output.specs.Writer.{Writes};
 ghost use Rattle.triples.specs.Triple.{keys_from, words_of};
 
-use files::cursor::{Cursor, Step};
 use files::field::{label, node, target};
 use files::limits::TRIPLE_WORDS;
 use files::part::is_node;
+use files::word::Words;
 use output::writer::push;
 
 // The triple of an edge word of node x.
@@ -29,20 +29,12 @@ pub fn write_triples(whole: &[u8], out: &mut [u8], start: usize) -> usize
 {
     let mut count = start;
     let mut x = 0;
-    let mut cur = Cursor { at: 1 };
-    loop {
-        match cur.read(whole) {
-            Step::Word(w, next) => {
-                cur = next;
-                if is_node(w) {
-                    x = node(w);
-                } else {
-                    count = write_triple(x, w, out, count);
-                }
-            }
-            Step::End => {
-                return count;
-            }
+    for w in Words::body(whole) {
+        if is_node(w) {
+            x = node(w);
+        } else {
+            count = write_triple(x, w, out, count);
         }
     }
+    count
 }

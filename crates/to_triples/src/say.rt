@@ -4,6 +4,7 @@ ghost use Rattle.std.specs.Prelude.{◌≡◌, ◌≤◌, ◌<◌, length};
 ghost use Rattle.sets.specs.Sets.{any, span};
 ghost use Rattle.sets.specs.NodeSet.{has_node, node_set_bytes};
 ghost use Rattle.files.specs.Word.{words};
+ghost use Rattle.files.specs.Refusal.{number};
 ghost use Rattle.files.specs.Part.{whole_check};
 ghost use Rattle.files.specs.Limits.{part_words};
 ghost use Rattle.triples.specs.Triple.{say_check};
@@ -12,7 +13,7 @@ ghost use Rattle.to_triples.specs.Say.{unsaid_at};
 use files::buffer::clear;
 use files::field::{node, root, stopped};
 use files::part::{is_edge, is_node};
-use files::refuse::refuse;
+use files::refusal::{Refusal, ensure};
 use files::word::word_at;
 use kinds::mark::mark_kind;
 use sets::node_set::has;
@@ -36,12 +37,12 @@ fn has_unsaid(whole: &[u8], work: &[u8]) -> bool
 }
 
 // 19 of an accepted whole. The working buffer is used and not cleared after.
-pub fn check_said(whole: &[u8], work: &mut [u8]) -> u32
+pub fn check_said(whole: &[u8], work: &mut [u8]) -> Result<(), Refusal>
     requires { (node_set_bytes ≤ length work.old) × (length (words whole.now) ≤ part_words) × (whole_check (words whole.now) ≡ 0) }
-    ensures { result ≡ say_check (words whole.now) }
+    ensures { number result ≡ say_check (words whole.now) }
 {
     clear(work);
     mark_kind(whole, work, 3);
     let unsaid = has_unsaid(whole, work);
-    refuse(19, !unsaid)
+    ensure(!unsaid, Refusal::Unsaid)
 }

@@ -3,12 +3,14 @@ ghost use Rattle.std.specs.Prelude.{◌≡◌, ◌/◌, ◌<◌, length};
 ghost use Rattle.sets.specs.Sets.{any, span};
 ghost use Rattle.files.specs.Word.{words};
 ghost use Rattle.files.specs.Refuse.{◌then◌, size_check};
+ghost use Rattle.files.specs.Refusal.{number};
 ghost use Rattle.files.specs.Limits.{triple_words};
 ghost use Rattle.triples.specs.Triple.{triples_check};
 ghost use Rattle.triples.specs.At.{large_at};
 
 use files::limits::TRIPLE_WORDS;
-use files::refuse::{check_size, refuse};
+use files::refusal::{Refusal, ensure};
+use files::refuse::check_size;
 use files::word::word_at;
 
 // How many triples stand behind the root word.
@@ -38,16 +40,13 @@ fn has_large(triples: &[u8], n: usize) -> bool
     (0..n).any(|i| is_large(triples, i))
 }
 
-// The number of the refusal of a triple file, 0 where it is one.
-pub fn check_triples(triples: &[u8]) -> u32
-    ensures { result ≡ (size_check triple_words triples.now then triples_check (words triples.now)) }
+// The checks of a triple file in their order.
+pub fn check_triples(triples: &[u8]) -> Result<(), Refusal>
+    ensures { number result ≡ (size_check triple_words triples.now then triples_check (words triples.now)) }
 {
-    let n = check_size(triples, TRIPLE_WORDS);
-    if n != 0 {
-        return n;
-    }
+    check_size(triples, TRIPLE_WORDS)?;
     let threes = triples.len() / 4 % 3 == 1;
     let root = word_at(triples, 0) <= 65535;
     let large = has_large(triples, count_triples(triples));
-    refuse(18, threes & root & !large)
+    ensure(threes & root & !large, Refusal::WrongTriples)
 }

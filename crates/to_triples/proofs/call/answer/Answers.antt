@@ -1,21 +1,20 @@
 -- `to_triples::call::answer` meets its contract. Assumes nothing.
 use borrow.Author.Rules.{rules}
 use native.Mathlib.Omega.{arith}
+use Rattle.files.proofs.Checks.{code_some, ok_zero}
 use Rattle.to_triples.proofs.Answering.{writable, counted, responds_refused, responds_written}
+use Rattle.to_triples.specs.To.{to_call}
 use Rattle.to_triples.proofs.call.answer.Goals as goal
 
-pub returns-then-number-ne0 : goal.returns-then-number-ne0
-returns-then-number-ne0 c =
-    responds_refused _ c.check-number.ensures _ c.if-number-ne0.true
+pub returns-in_err-check : goal.returns-in_err-check
+unfolding to_call
+returns-in_err-check c = search (responds_refused, code_some, rules)
 
 pub write-requires : goal.write-requires
-write-requires c =
-    writable _ c.check-number.ensures c.if-number-ne0.false (search rules)
+write-requires c = writable _ c.check.ensures (ok_zero c.in_ok-check.was) (search rules)
 
 pub overflow_cast-count : goal.overflow_cast-count
-overflow_cast-count c =
-    omega (arith, c.write.ensures.1, counted _ c.check-number.ensures c.if-number-ne0.false)
+overflow_cast-count c = omega (arith, c.write.ensures.1, counted _ c.check.ensures (ok_zero c.in_ok-check.was))
 
 pub returns : goal.returns
-returns c =
-    responds_written _ c.check-number.ensures c.if-number-ne0.false c.write.ensures
+returns c = responds_written _ c.check.ensures (ok_zero c.in_ok-check.was) c.write.ensures

@@ -6,4 +6,4 @@ use Rattle.to_triples.proofs.say.check_said.Goals as goal
 
 pub returns : goal.returns
 returns c =
-    said_checked (words c.args.whole.now) _ (length c.args.work.now) c.requires.2 c.clear.ensures c.mark_kind.ensures c.has_unsaid-unsaid.ensures c.refuse.ensures
+    said_checked (words c.args.whole.now) _ (length c.args.work.now) c.requires.2 c.clear.ensures c.mark_kind.ensures c.has_unsaid-unsaid.ensures c.ensure.ensures
