@@ -11,7 +11,7 @@ unfolding generate_call
 returns-in_err-check c = search (answering, lent_kept, rules)
 
 pub write-requires : goal.write-requires
-write-requires c = writable _ _ c.check.ensures (ok_zero c.in_ok-check.was) (search rules)
+write-requires c = (writable c.args.nodes c.args.edges c.check.ensures (ok_zero c.in_ok-check.was) (search rules)).1
 
 pub returns : goal.returns
 returns c =
