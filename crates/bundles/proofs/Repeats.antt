@@ -76,15 +76,10 @@ repeating_first k {us} {d = d} e h z =
 module _ {k : ℕ} {d work vs : List ℕ} {x : Bool} (f : Repeating k d x work vs) where
   -- a word of kind j is the next
   module _ {w j : ℕ} {ws : List ℕ} (a : vs ≡ w ∷ ws) (e : j ≡ kind_of w) where
-    pub repeating_other : (j ≡ k → ⊥) → Repeating k d x work ws
-    repeating_other n = record { same = rw (a, ne_eqb (kind_of w) k (λ i. n (e ∙ i))) at f.same; long = f.long; room = f.room }
 
     module _ {v : ℕ} {b : Bool} (i : j ≡ k) (g : v ≡ node_of w) (o : b ≡ has_node work 0 v) where
       here : (b || stale (λ y. has_node work 0 y || eqb y v) (nodes_of k ws)) ≡ x
       here = rw (o, g) (rw (a, eq-eqb (kind_of w) k (sym e ∙ i)) at f.same)
-
-      pub repeating_found : b ≡ true → true ≡ x
-      repeating_found h = rw h at here
 
       pub repeating_more : {work' : List ℕ} → b ≡ false → Added 0 v work work' → Repeating k d x work' ws
       repeating_more {work'} h m = record {
@@ -92,9 +87,6 @@ module _ {k : ℕ} {d work vs : List ℕ} {x : Bool} (f : Repeating k d x work v
         long = m.same ∙ f.long;
         room = f.room;
       }
-
-  pub repeating_last : vs ≡ [] → false ≡ x
-  repeating_last a = rw a at f.same
 
 -- 12: the headers from a start on, and the sites seen before
 

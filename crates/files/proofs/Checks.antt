@@ -4,7 +4,7 @@ use mathlib.Core.Path.{◌≡◌, refl, sym, ◌∙◌, ap}
 use mathlib.Core.Logic.{◌↔◌, ◌⊎◌, inl, inr}
 use mathlib.Core.Bool.{Bool, true, false}
 use mathlib.Core.List.{List, []}
-use Prim.Native.Nat.{ℕ, zero, suc, ◌*◌, ◌/◌, ◌≤◌, ◌<◌}
+use Prim.Native.Nat.{ℕ, zero, suc, ◌*◌, ◌≤◌, ◌<◌}
 use native.Mathlib.Omega.{arith}
 use lib.Dec.{T, leb, ltb, leb→le}
 use lib.ListN.{length}
@@ -42,23 +42,11 @@ refused_first (suc a) b h e = e
 pub passed_first : (a b : ℕ) {n r : ℕ} → n ≡ 0 → n ≡ a → r ≡ b → r ≡ (a then b)
 passed_first a b h e f = rw (← e, h) f
 
--- two checks a then b before the next: a refusal stands, and an acceptance goes on
-pub refused_then : (a b d : ℕ) {n : ℕ} → (n ≡ 0 → ⊥) → n ≡ (a then b) → n ≡ (a then (b then d))
-refused_then a b d h e = rw (← then_assoc a b d) (refused_first (a then b) d h e)
-
-pub passed_then : (a b d : ℕ) {n r : ℕ} → n ≡ 0 → n ≡ (a then b) → r ≡ d → r ≡ (a then (b then d))
-passed_then a b d h e f = rw (← then_assoc a b d) (passed_first (a then b) d h e f)
-
 -- checks one after another, each by a callee's answer: all of them, or the last where those before it pass
 pub chained : {a b x y n : ℕ} → n ≡ (a then b) → a ≡ x → b ≡ y → n ≡ (x then y)
 chained e f g = e ∙ rw (f, g)
 
 pub ruleset checks = (then_iff, unless_iff, and_iff, eq_iff, le_iff)
-
--- room for the words of a limit, as the code tests it: no product that could wrap
-pub room_same : (limit out : ℕ) → leb limit (out / 4) ≡ leb (4 * limit) out
-room_same limit out =
-    same_test (λ t. (le_iff (4 * limit) out).1 (omega (arith, (le_iff limit (out / 4)).0 t))) (λ t. (le_iff limit (out / 4)).1 (omega (arith, (le_iff (4 * limit) out).0 t)))
 
 -- long enough buffers
 pub room_checked : (limit out work : ℕ) → 4 * limit ≤ out → work_bytes ≤ work → room_check limit out work ≡ 0

@@ -24,32 +24,7 @@ pub record Ranging (s ws : List ℕ) : Type 0 where
   pub eight : length s ≡ 4 * group_count
   pub same : any (λ w. not (is_range w)) ws ≡ any (λ w. not (is_range w)) (words s)
 
-pub not_eight : (s : List ℕ) (e : Refusal) → code e ≡ (code WrongGroups unless eqb (length s) (4 * group_count)) → code e ≡ groups_check s
-not_eight s e h = by (eqb (length s) (4 * group_count)) h
-  where
-    by : (b : Bool) → code e ≡ (16 unless b) → code e ≡ (16 unless (b && not (any (λ w. not (is_range w)) (words s))))
-    by true g = absurd (code_some e g)
-    by false g = g
-
-pub ranging_first : (s : List ℕ) {ws : List ℕ} → ws ≡ words s → (code WrongGroups unless eqb (length s) (4 * group_count)) ≡ 0 → Ranging s ws
-ranging_first s e h = record { eight = simp checks at h; same = rw e }
-
 module _ {s vs : List ℕ} (f : Ranging s vs) where
-  module _ {w : ℕ} {ws : List ℕ} {b : Bool} (t : vs ≡ w ∷ ws) (e : b ≡ is_range w) where
-    pub ranging_more : (code WrongGroups unless b) ≡ 0 → Ranging s ws
-    ranging_more h = let c = by b h in let g = f.same in record { eight = f.eight; same = rw (t, ← e, c) at g }
-      where
-        by : (b : Bool) → (16 unless b) ≡ 0 → b ≡ true
-        by true h = refl
-        by false h = absurd (omega arith)
-
-    pub ranging_wrong : (x : Refusal) → code x ≡ (code WrongGroups unless b) → code x ≡ groups_check s
-    ranging_wrong x h = by b e h
-      where
-        by : (b : Bool) → b ≡ is_range w → code x ≡ (16 unless b) → code x ≡ groups_check s
-        by true e h = absurd (code_some x h)
-        by false e h = let g = f.same in let k = rw (t, ← e) at g in h ∙ rw (f.eight, ← k)
-
   pub ranging_last : vs ≡ [] → 0 ≡ groups_check s
   ranging_last e = let g = f.same in let h = rw e at g in rw (f.eight, ← h)
 

@@ -96,9 +96,6 @@ pub closed_at_lem : (kind site n limit at end : ℕ) (out : List ℕ) {out' : Li
     → out' ≡ put_word out at h → out' ≡ closed_at kind site n limit at end out
 closed_at_lem kind site n limit at end out l k e = e ∙ rw (le-leb end limit l, k)
 
-pub not_closed : (kind site n limit at end : ℕ) (out : List ℕ) → limit < end → out ≡ closed_at kind site n limit at end out
-not_closed kind site n limit at end out l = rw (lt-leb end limit l)
-
 -- for the proof of `close`
 pub closes : (kind site n limit : ℕ) (out : List ℕ) (count : ℕ) {out' : List ℕ} {r : ℕ} → 0 < limit → limit ≤ final_words → 4 * limit ≤ length out
     → out' ≡ closed_at kind site n limit 0 count out → r ≡ (15 unless leb count limit) → Closes kind site n limit out count out' r

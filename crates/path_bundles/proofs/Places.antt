@@ -4,9 +4,8 @@ use mathlib.Core.Bool.{Bool, true, false, ◌&&◌}
 use mathlib.Core.List.{List, [], ◌∷◌}
 use Prim.Native.Nat.{ℕ, zero, suc, ◌+◌, ◌-◌, ◌≤◌, ◌<◌}
 use native.Mathlib.Omega.{arith}
-use borrow.Author.Rules.{part_to_end}
 use lib.Dec.{leb, ltb}
-use lib.ListN.{length, get_or, take, drop, drop_of_length-le}
+use lib.ListN.{length, get_or}
 use lib.Seq.{take_all, take-nil, drop-nil}
 use Rattle.path_bundles.specs.Split.{bytes_in, file_in, behind, split, uses_up}
 use Rattle.path_bundles.specs.Place.{file_at}
@@ -14,12 +13,6 @@ use Rattle.path_bundles.specs.Place.{file_at}
 -- a header that says more than there is gets all, and nothing stands behind it
 pub file_all : (s : List ℕ) {n : ℕ} → n ≡ bytes_in s → length s < n → s ≡ file_in s
 file_all s e h = sym (take_all (bytes_in s) s (omega (arith, e)))
-
-pub behind_within : (s : List ℕ) {n : ℕ} → n ≡ bytes_in s → take (length s - n) (drop n s) ≡ behind s
-behind_within s e = part_to_end s _ ∙ rw e
-
-pub behind_past : (s : List ℕ) {n : ℕ} → n ≡ bytes_in s → length s < n → [] ≡ behind s
-behind_past s e h = sym (drop_of_length-le s {i = bytes_in s} (omega (arith, e)))
 
 and_all : (a b c : Bool) → (a && b && c) ≡ ((a && b) && c)
 and_all true b c = refl
@@ -33,21 +26,6 @@ pub using_first : (most : ℕ) (s : List ℕ) → Using most (uses_up most s) s 
 using_first most s = let e : most - 0 ≡ most = omega arith in record { same = rw e }
 
 module _ {most i : ℕ} {x : Bool} {s : List ℕ} (u : Using most x s i) where
-  pub using_none : length s ≡ 0 → true ≡ x
-  using_none h = by (most - i) s h ∙ u.same
-    where
-      by : (k : ℕ) (s : List ℕ) → length s ≡ 0 → true ≡ uses_up k s
-      by zero [] h = refl
-      by (suc k) [] h = refl
-      by k (b ∷ s) h = absurd (omega arith)
-
-  pub using_last : most ≤ i → 0 < length s → false ≡ x
-  using_last l h = let z : most - i ≡ 0 = omega arith in by s h ∙ rw z at u.same
-    where
-      by : (s : List ℕ) → 0 < length s → false ≡ uses_up 0 s
-      by [] h = absurd (omega arith)
-      by (b ∷ s) h = refl
-
   module _ (l : i < most) (h : 0 < length s) {n : ℕ} (e : n ≡ bytes_in s) where
     step : ((ltb 0 n && leb n (length s)) && uses_up (most - (i + 1)) (behind s)) ≡ x
     step = let k : most - i ≡ suc (most - (i + 1)) = omega arith in rw e (sym (by (most - (i + 1)) s h) ∙ rw k at u.same)
@@ -55,9 +33,6 @@ module _ {most i : ℕ} {x : Bool} {s : List ℕ} (u : Using most x s i) where
         by : (k : ℕ) (s : List ℕ) → 0 < length s → uses_up (suc k) s ≡ ((ltb 0 (bytes_in s) && leb (bytes_in s) (length s)) && uses_up k (behind s))
         by k [] h = absurd (omega arith)
         by k (b ∷ s) h = and_all (ltb 0 (bytes_in (b ∷ s))) (leb (bytes_in (b ∷ s)) (length (b ∷ s))) (uses_up k (behind (b ∷ s)))
-
-    pub using_wrong : (ltb 0 n && leb n (length s)) ≡ false → false ≡ x
-    using_wrong q = rw q at step
 
     pub using_more : {r : List ℕ} → (ltb 0 n && leb n (length s)) ≡ true → r ≡ behind s → Using most x r (i + 1)
     using_more q f = record { same = rw f (rw q at step) }
