@@ -24,10 +24,8 @@ const EDGE_BOUND: u32 = MOST_EDGES as u32;
 fn check_bounds(nodes: u32, edges: u32) -> u32
     ensures { result ≡ bounds_check nodes edges }
 {
-    refuse(
-        11,
-        (1 <= nodes) & (nodes <= NODE_BOUND) & (1 <= edges) & (edges <= EDGE_BOUND),
-    )
+    let within = (1..=NODE_BOUND).contains(&nodes) && (1..=EDGE_BOUND).contains(&edges);
+    refuse(11, within)
 }
 
 // The number of the first check that fails: the buffers, the counts.
