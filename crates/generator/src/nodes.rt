@@ -1,5 +1,5 @@
 // The nodes of the file, each with its edges, from 0 upward.
-ghost use Rattle.std.specs.Prelude.{◌≡◌, ◌*◌, ◌≤◌, ◌<◌, length, take};
+ghost use Rattle.std.specs.Prelude.{◌≡◌, ◌*◌, ◌≤◌, ◌<◌, length};
 ghost use mathlib.Core.List.{map, flatten};
 ghost use Rattle.sets.specs.Sets.{span};
 ghost use Rattle.files.specs.Limits.{part_words};
