@@ -4,14 +4,6 @@ use Rattle.output.proofs.Frame.{passed, answer_refused, answer_filed}
 use Rattle.cutter.specs.Cut.{cut_call}
 use Rattle.cutter.proofs.call.answer.Goals as goal
 
-pub check-n-requires : goal.check-n-requires
-unfolding cut_call
-check-n-requires c = search rules
-
-pub shape_of-work-then-n-ne0 : goal.shape_of-work-then-n-ne0
-unfolding cut_call
-shape_of-work-then-n-ne0 c = search rules
-
 pub returns-then-n-ne0 : goal.returns-then-n-ne0
 unfolding cut_call
 returns-then-n-ne0 c = search (answer_refused, rules)
@@ -19,14 +11,6 @@ returns-then-n-ne0 c = search (answer_refused, rules)
 pub write-requires : goal.write-requires
 unfolding cut_call
 write-requires c = search (passed, rules)
-
-pub shape_of-out : goal.shape_of-out
-unfolding cut_call
-shape_of-out c = search rules
-
-pub shape_of-work : goal.shape_of-work
-unfolding cut_call
-shape_of-work c = search rules
 
 pub returns : goal.returns
 unfolding cut_call
