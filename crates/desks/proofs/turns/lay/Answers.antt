@@ -13,12 +13,6 @@ returns-then-s-i c =
     let a = c.args in
     lays_in a.i a.come a.s (file_asked a.i a.paths.now c.file_at.ensures c.ask-a.ensures) c.if-s-i.true c.settle_desk.ensures
 
-pub overflow_add-result : goal.overflow_add-result
-overflow_add-result c =
-    let k = c.short_part.ensures.few in
-    let may = c.requires.1 in
-    record { fits = omega (arith, k, may.few, may.turn) }
-
 pub returns : goal.returns
 returns c =
     let a = c.args in
