@@ -9,6 +9,7 @@ use Rattle.std.proofs.lemmas.Bool.Decides.{nat_tests}
 use lib.Dec.{leb}
 use lib.ListN.{length}
 use Rattle.std.specs.Prelude.{Result, Ok, Err, IsErr}
+use Rattle.std.specs.Result.{result_unwrap_or}
 use Rattle.files.specs.declared.refusal.Refusal.{Refusal}
 use Rattle.files.specs.Refusal.{number}
 use Rattle.sets.specs.Sets.{Mem, here, there}
@@ -32,7 +33,7 @@ use Rattle.path_bundles.specs.Packed.{number_of}
 use Rattle.first_replies.specs.FirstReply.{first_reply}
 use Rattle.site_first.specs.First.{first_reply_grouped_call}
 use Rattle.visits.specs.Whole.{shortest, whole_grouped_number}
-use Rattle.visits.specs.Answered.{VisitChecked, SiteRead, SiteReady, answered, answered_by, own_by, own, PathAsked, PathAnswered, PathLeft, end_of}
+use Rattle.visits.specs.Answered.{VisitChecked, SiteRead, SiteReady, answered, answered_by, own_by, own, PathAsked, PathAnswered, PathLeft}
 
 -- ---- the checks of the whole
 
@@ -135,7 +136,7 @@ module _ (out : List ℕ) {at : ℕ} (h : at ≤ reply_words) where
 
   -- its own checks refuse, or its reply is written
   pub asked_refused : {whole k : ℕ} (r : Result ℕ Refusal) (part groups path : List ℕ) → whole ≡ 0 → (length path ≡ 0 → ⊥) → k ≡ (size_check path_words path then path_check (words path))
-      → (k ≡ 0 → ⊥) → IsErr r → number r ≡ k → PathAsked whole part groups path (length out) out at out (number r) (end_of at r)
+      → (k ≡ 0 → ⊥) → IsErr r → number r ≡ k → PathAsked whole part groups path (length out) out at out (number r) (result_unwrap_or r at)
   asked_refused (Ok end) part groups path w s e z f d = absurd (clash f refl)
   asked_refused (Err x) part groups [] w s e z f d = absurd (s refl)
   asked_refused (Err x) part groups (b ∷ path) w s e z f d =

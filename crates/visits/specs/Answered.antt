@@ -1,6 +1,5 @@
 -- Inner. The checks of a visit, what has passed before a path is answered, what it is answered, and what that leaves.
-use Rattle.std.specs.Prelude.{◌≡◌, List, [], ◌∷◌, ℕ, zero, suc, Result, Ok, Err}
-use Rattle.files.specs.declared.refusal.Refusal.{Refusal}
+use Rattle.std.specs.Prelude.{◌≡◌, List, [], ◌∷◌, ℕ, zero, suc}
 use Rattle.files.specs.Word.{words}
 use Rattle.files.specs.Refuse.{◌then◌, size_check}
 use Rattle.files.specs.Outcome.{Outcome, refused, accepted, outcome, leaves}
@@ -55,11 +54,6 @@ own zero part groups [] = own_by 0 []
 own zero part groups (b ∷ path) =
     own_by (size_check path_words (b ∷ path) then path_check (words (b ∷ path))) (first_reply (words part) (loaded (words groups) (words (b ∷ path))))
 own (suc k) part groups path = own_by (suc k) []
-
--- where a reply behind the first `at` words ends, and where there is none they do
-abbrev pub end_of : ℕ → Result ℕ Refusal → ℕ
-end_of at (Ok end) = end
-end_of at (Err e) = at
 
 -- its own number, and its reply behind the first `at` words of an output of n bytes, which ends at `end`
 pub record PathAsked (whole : ℕ) (part groups path : List ℕ) (n : ℕ) (out : List ℕ) (at : ℕ) (out' : List ℕ) (number end : ℕ) : Type 0 where

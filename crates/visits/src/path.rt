@@ -1,8 +1,9 @@
 // One path of a visit.
 ghost use Rattle.std.specs.Prelude.{◌≤◌, length};
+ghost use Rattle.std.specs.Result.{result_unwrap_or};
 ghost use Rattle.files.specs.Refusal.{number};
 ghost use Rattle.files.specs.Limits.{reply_words};
-ghost use Rattle.visits.specs.Answered.{SiteReady, PathAsked, PathAnswered, PathLeft, end_of};
+ghost use Rattle.visits.specs.Answered.{SiteReady, PathAsked, PathAnswered, PathLeft};
 
 use files::buffer::clear;
 use files::limits::REPLY_WORDS;
@@ -24,7 +25,7 @@ pub fn ask(
     work: &mut [u8],
 ) -> Result<usize, Refusal>
     requires { SiteReady (number whole) (length out.old) (length work.old) part.now groups.now × (at ≤ reply_words) }
-    ensures { PathAsked (number whole) part.now groups.now path.now (length out.old) out.old at out.new (number result) (end_of at result) }
+    ensures { PathAsked (number whole) part.now groups.now path.now (length out.old) out.old at out.new (number result) (result_unwrap_or result at) }
 {
     whole?;
     if path.len() == 0 {
