@@ -1,18 +1,20 @@
 // The turn of one desk. In the first round its reply goes behind the ones before it, as long as every desk to come could still have a short one beside
 // it; from the first that does not fit so on, replies are only measured. In the second round the words of all short replies are known.
 ghost use Rattle.std.specs.Prelude.{length};
+ghost use Rattle.files.specs.Refusal.{number};
 ghost use Rattle.path_bundles.specs.Place.{file_at};
 ghost use Rattle.visits.specs.Answered.{own};
 ghost use Rattle.desks.specs.Turns.{Asking, MayLay, Lays, MayChoose, Chooses};
 
 use super::stand::{SHORT_WORDS, Stand, erase, settle_desk, short_part};
 use files::limits::REPLY_WORDS;
+use files::refusal::Refusal;
 use path_bundles::split::file_at;
 use visits::path::ask;
 
 // The first round at desk i, with so many desks to come.
 pub fn lay(
-    whole: u32,
+    whole: Result<(), Refusal>,
     part: &[u8],
     groups: &[u8],
     paths: &[u8],
@@ -22,15 +24,16 @@ pub fn lay(
     out: &mut [u8],
     work: &mut [u8],
 ) -> Stand
-    requires { Asking whole (length out.old) (length work.old) part.now groups.now × MayLay i come (length out.old) s }
-    ensures { Lays (own whole part.now groups.now (file_at i paths.now)) i come (length out.old)
+    requires { Asking (number whole) (length out.old) (length work.old) part.now groups.now × MayLay i come (length out.old) s }
+    ensures { Lays (own (number whole) part.now groups.now (file_at i paths.now)) i come (length out.old)
         s out.old result out.new }
 {
     let at = s.words;
-    let a = ask(whole, part, groups, file_at(paths, i), at, out, work);
-    let end = a.end;
+    let asked = ask(whole, part, groups, file_at(paths, i), at, out, work);
+    let outcome = asked.and(Ok(()));
+    let end = asked.unwrap_or(at);
     if (s.next == i) & (end + SHORT_WORDS * come <= REPLY_WORDS) {
-        return settle_desk(s, a.number, end, 0);
+        return settle_desk(s, outcome, end, 0);
     }
     erase(out, at);
     Stand {
@@ -41,7 +44,7 @@ pub fn lay(
 
 // The second round at the next desk: a short reply goes in, a longer one if it fits beside those that are in and the short ones to come.
 pub fn choose(
-    whole: u32,
+    whole: Result<(), Refusal>,
     part: &[u8],
     groups: &[u8],
     paths: &[u8],
@@ -49,20 +52,21 @@ pub fn choose(
     out: &mut [u8],
     work: &mut [u8],
 ) -> Stand
-    requires { Asking whole (length out.old) (length work.old) part.now groups.now
-        × MayChoose (own whole part.now groups.now (file_at s.next paths.now)) (length out.old) s }
-    ensures { Chooses (own whole part.now groups.now (file_at s.next paths.now)) (length out.old)
+    requires { Asking (number whole) (length out.old) (length work.old) part.now groups.now
+        × MayChoose (own (number whole) part.now groups.now (file_at s.next paths.now)) (length out.old) s }
+    ensures { Chooses (own (number whole) part.now groups.now (file_at s.next paths.now)) (length out.old)
         s out.old result out.new }
 {
     let at = s.words;
-    let a = ask(whole, part, groups, file_at(paths, s.next), at, out, work);
-    let end = a.end;
+    let asked = ask(whole, part, groups, file_at(paths, s.next), at, out, work);
+    let outcome = asked.and(Ok(()));
+    let end = asked.unwrap_or(at);
     if (end <= REPLY_WORDS) & (end - at <= SHORT_WORDS) {
-        return settle_desk(s, a.number, end, s.later - (end - at));
+        return settle_desk(s, outcome, end, s.later - (end - at));
     }
     if end + s.later <= REPLY_WORDS {
-        return settle_desk(s, a.number, end, s.later);
+        return settle_desk(s, outcome, end, s.later);
     }
     erase(out, at);
-    settle_desk(s, 15, at, s.later)
+    settle_desk(s, Err(Refusal::TooLong), at, s.later)
 }

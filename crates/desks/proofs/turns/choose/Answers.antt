@@ -5,29 +5,29 @@ use Rattle.desks.proofs.turns.choose.Goals as goal
 pub overflow_sub-s : goal.overflow_sub-s
 overflow_sub-s c =
     let a = c.args in
-    short_kept (file_asked a.s.next a.paths.now c.file_at.ensures c.ask-a.ensures) c.requires.1 c.if-end-at.true
+    short_kept (file_asked c.ask-asked.result a.s.next a.paths.now c.file_at.ensures c.ask-asked.ensures c.and-outcome.ensures c.unwrap_or-end.ensures) c.requires.1 c.if-end-at.true
 
 pub settle_desk-requires : goal.settle_desk-requires
 settle_desk-requires c =
-    (asked_small c.ask-a.ensures c.requires.0.small, c.requires.1.turn)
+    (asked_small (file_asked c.ask-asked.result c.args.s.next c.args.paths.now c.file_at.ensures c.ask-asked.ensures c.and-outcome.ensures c.unwrap_or-end.ensures) c.requires.0.small, c.requires.1.turn)
 
 pub returns-then-end-at : goal.returns-then-end-at
 returns-then-end-at c =
     let a = c.args in
-    gets_short (file_asked a.s.next a.paths.now c.file_at.ensures c.ask-a.ensures) c.requires.1 c.if-end-at.true c.settle_desk.ensures
+    gets_short (file_asked c.ask-asked.result a.s.next a.paths.now c.file_at.ensures c.ask-asked.ensures c.and-outcome.ensures c.unwrap_or-end.ensures) c.requires.1 c.if-end-at.true c.settle_desk.ensures
 
 pub settle_desk-requires-then-end-s-le-REPLY_WORDS : goal.settle_desk-requires-then-end-s-le-REPLY_WORDS
 settle_desk-requires-then-end-s-le-REPLY_WORDS c =
-    (asked_small c.ask-a.ensures c.requires.0.small, c.requires.1.turn)
+    (asked_small (file_asked c.ask-asked.result c.args.s.next c.args.paths.now c.file_at.ensures c.ask-asked.ensures c.and-outcome.ensures c.unwrap_or-end.ensures) c.requires.0.small, c.requires.1.turn)
 
 pub returns-then-end-s-le-REPLY_WORDS : goal.returns-then-end-s-le-REPLY_WORDS
 returns-then-end-s-le-REPLY_WORDS c =
     let a = c.args in
-    gets_long (file_asked a.s.next a.paths.now c.file_at.ensures c.ask-a.ensures) c.requires.1 c.if-end-at.false
+    gets_long (file_asked c.ask-asked.result a.s.next a.paths.now c.file_at.ensures c.ask-asked.ensures c.and-outcome.ensures c.unwrap_or-end.ensures) c.requires.1 c.if-end-at.false
     c.if-end-s-le-REPLY_WORDS.true c.settle_desk-then-end-s-le-REPLY_WORDS.ensures
 
 pub returns : goal.returns
 returns c =
     let a = c.args in
-    gets_nothing (file_asked a.s.next a.paths.now c.file_at.ensures c.ask-a.ensures) c.requires.1 c.if-end-at.false
-    c.if-end-s-le-REPLY_WORDS.false c.erase.ensures c.ask-a.auto.out c.settle_desk-2.ensures
+    gets_nothing (file_asked c.ask-asked.result a.s.next a.paths.now c.file_at.ensures c.ask-asked.ensures c.and-outcome.ensures c.unwrap_or-end.ensures) c.requires.1 c.if-end-at.false
+    c.if-end-s-le-REPLY_WORDS.false c.erase.ensures c.ask-asked.auto.out c.settle_desk-2.ensures

@@ -32,4 +32,5 @@ pack-requires c =
 
 pub returns : goal.returns
 returns c =
-    visited c.requires c.reply-a.ensures c.reply-b.ensures c.reply-c.ensures c.reply-d.ensures c.pack.ensures
+    visited c.requires c.reply-a.ensures c.reply-b.ensures c.reply-c.ensures c.reply-d.ensures
+    (rw (← c.number.ensures, ← c.number-2.ensures, ← c.number-3.ensures, ← c.number-4.ensures) c.pack.ensures)

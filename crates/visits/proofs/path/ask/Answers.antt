@@ -1,19 +1,14 @@
 -- `visits::path::ask` meets its contract. Assumes nothing.
 use borrow.Author.Rules.{rules}
-use Rattle.visits.proofs.Visiting.{asked_whole, asked_none, asked_refused, asked_reply, path_passed}
+use Rattle.files.proofs.Checks.{code_some, ok_zero}
+use Rattle.visits.proofs.Visiting.{asked_refused, path_passed}
 use Rattle.visits.proofs.path.ask.Goals as goal
 
-pub returns-then-whole-ne0 : goal.returns-then-whole-ne0
-returns-then-whole-ne0 c = search (asked_whole, rules)
+pub returns-in_err-check_path : goal.returns-in_err-check_path
+returns-in_err-check_path c =
+    let a = c.args in
+    asked_refused a.out.now c.requires.1 _ a.part.now a.groups.now a.path.now (ok_zero c.in_ok-whole.was) c.if-path-eq0.false c.in_err-check_path.ensures
+    (code_some _) c.from_residual-in_err-check_path.ensures.0 (search rules)
 
-pub returns-then-path-eq0 : goal.returns-then-path-eq0
-returns-then-path-eq0 c = search (asked_none, rules)
-
-pub returns-then-n-ne0 : goal.returns-then-n-ne0
-returns-then-n-ne0 c = search (asked_refused, rules)
-
-pub append-end-requires : goal.append-end-requires
-append-end-requires c = search (path_passed, rules)
-
-pub returns : goal.returns
-returns c = search (asked_reply, rules)
+pub append-requires : goal.append-requires
+append-requires c = (path_passed c.args.path.now c.requires.0 (ok_zero c.in_ok-whole.was) (ok_zero c.in_ok-check_path.was) c.check_path.ensures, c.requires.1)
