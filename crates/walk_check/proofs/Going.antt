@@ -11,11 +11,12 @@ use lib.ListN.{length, get_or, drop}
 use Rattle.sets.specs.Sets.{any, member}
 use Rattle.sets.specs.States.{members, states_of}
 use Rattle.sets.proofs.Tests.{either, passed, eq_iff, eqb_sym}
-use Rattle.files.specs.declared.cursor.Cursor.{Cursor}
-use Rattle.files.specs.declared.cursor.Step.{Step}
-use Rattle.files.specs.declared.cursor.Step.TheVariants.{Word, End}
 use Rattle.files.specs.Word.{words, bytes_of}
-use Rattle.files.specs.Read.{read_at}
+use Rattle.std.specs.Prelude.{Option, Some, None, Result, is_ok, Ok, Err}
+use Rattle.files.specs.declared.word.Words.{Words}
+use Rattle.files.specs.declared.refusal.Refusal.{Refusal}
+use Rattle.files.specs.Refusal.{code, number}
+use Rattle.files.specs.Read.{left_of}
 use Rattle.files.specs.Field.{label_of, target_of}
 use Rattle.files.specs.Refuse.{size_check}
 use Rattle.files.specs.Outcome.{LeftLent, outcome, zeros, left, left_lent, leaves_lent}
@@ -23,9 +24,8 @@ use Rattle.files.specs.Part.{roots, front, edges, whole_check}
 use Rattle.files.specs.Path.{path_check}
 use Rattle.files.specs.Groups.{groups_check, loaded, our_groups}
 use Rattle.files.specs.Limits.{shown_words, path_words, walk_words}
-use Rattle.files.proofs.Checks.{checks}
+use Rattle.files.proofs.Checks.{checks, code_some}
 use Rattle.files.proofs.Words.{words_length}
-use Rattle.files.proofs.Reading.{taken, ended}
 use Rattle.output.specs.Frame.{Check, input, also, Checked}
 use Rattle.output.proofs.Frame as frame
 use Rattle.expressions.specs.Expr.{Expr, count}
@@ -47,43 +47,52 @@ use Rattle.walk_check.specs.Plant.{Begins, Enters}
 abbrev goes_in : List ℕ → Expr → ℕ → ℕ → List ℕ → List ℕ → Bool
 goes_in ws e y x s vs = goes holds (runs_in (drop 1 ws)) (drop 1 ws) e y x s vs
 
--- from x, whose edge words begin at `at`, the words from k on do what all of them do from the root; where `at` is 0 the walk is none
-pub record Going (a : Automaton) (ws : List ℕ) (y root : ℕ) (walk : List ℕ) (x at s k : ℕ) : Type 0 where
-  pub here : (at ≡ 0 → ⊥) → edges (drop 1 ws) x ≡ front (drop at ws)
+-- from x, whose edge words are at the front of `at`, the words vs that are left do what all of them do from the root
+pub record Going (a : Automaton) (ws : List ℕ) (y root : ℕ) (walk : List ℕ) (x s : ℕ) (at vs : List ℕ) : Type 0 where
+  pub here : edges (drop 1 ws) x ≡ front at
   pub same : (e : Expr) → Automates a e
-      → (not (eqb at 0) && goes_in ws e y x (states_of s) (drop k (words walk))) ≡ (runs_in (drop 1 ws) root && goes_in ws e y root (0 ∷ []) (drop 1 (words walk)))
+      → goes_in ws e y x (states_of s) vs ≡ (runs_in (drop 1 ws) root && goes_in ws e y root (0 ∷ []) (drop 1 (words walk)))
 
-pub going_first : (a : Automaton) (ws : List ℕ) (y root : ℕ) (walk : List ℕ) {at : ℕ} → Begins ws root at → Going a ws y root walk root at 1 1
-going_first a ws y root walk b = record {
-  here = b.edges;
-  same = λ e m. rw b.runs (ap (λ s. runs_in (drop 1 ws) root && goes_in ws e y root s (drop 1 (words walk))) start_bits);
+-- the root does not run
+pub going_none : (ws : List ℕ) (y root : ℕ) (walk : List ℕ) {r : Option Words} → Begins ws root r → r ≡ None
+    → (e : Expr) → false ≡ (runs_in (drop 1 ws) root && goes_in ws e y root (0 ∷ []) (drop 1 (words walk)))
+going_none ws y root walk b n e = rw (← b.runs, n)
+
+pub going_first : (a : Automaton) (ws : List ℕ) (y root : ℕ) (walk : List ℕ) {r : Option Words} (at : Words) {vs : List ℕ} → Begins ws root r → r ≡ Some at
+    → vs ≡ drop 1 (words walk) → Going a ws y root walk root 1 (left_of at) vs
+going_first a ws y root walk at b n l = record {
+  here = rw n at b.edges;
+  same = λ e m. rw (← b.runs, n, l, start_bits);
 }
 
-module _ {a : Automaton} {ws : List ℕ} {y root : ℕ} {walk : List ℕ} {x at s k : ℕ} (f : Going a ws y root walk x at s k) where
-  pub going_out : at ≡ 0 → (e : Expr) → Automates a e → false ≡ (runs_in (drop 1 ws) root && goes_in ws e y root (0 ∷ []) (drop 1 (words walk)))
-  going_out z e m = rw z at (f.same e m)
-
-  module _ (n : at ≡ 0 → ⊥) {r : Step} (q : r ≡ read_at walk k) where
-    pub going_more : {w : ℕ} {c : Cursor} {at' l x' s' : ℕ} → r ≡ Word w c → Enters ws at w at' → l ≡ label_of w
-        → ((e : Expr) → Automates a e → states_of s' ≡ moved holds e (states_of s) l) → x' ≡ target_of w → Going a ws y root walk x' at' s' c.at
+module _ {a : Automaton} {ws : List ℕ} {y root : ℕ} {walk : List ℕ} {x s : ℕ} {at vs : List ℕ} (f : Going a ws y root walk x s at vs) where
+  module _ {w : ℕ} {us : List ℕ} {r : Option Words} (q : vs ≡ w ∷ us) (g : Enters ws at w r) where
+    pub going_out : r ≡ None → (e : Expr) → Automates a e → false ≡ (runs_in (drop 1 ws) root && goes_in ws e y root (0 ∷ []) (drop 1 (words walk)))
     unfolding goes
-    going_more {w = w} t g i j o = record {
-      here = rw o g.edges;
-      same = λ e m.
-          let u = taken {s = walk} {k = k} t q in
-          rw (g.runs, o, j e m, i) (rw (ne_eqb at 0 n, u.left, f.here n) at (f.same e m));
+    going_out n e m = let no = rw n at g.runs in let h = rw (q, f.here, ← no) at f.same e m in h
+
+    pub going_more : (at' : Words) {l x' s' : ℕ} → r ≡ Some at' → l ≡ label_of w
+        → ((e : Expr) → Automates a e → states_of s' ≡ moved holds e (states_of s) l) → x' ≡ target_of w → Going a ws y root walk x' s' (left_of at') us
+    unfolding goes
+    going_more at' n i j o = record {
+      here = rw o (rw n at g.edges);
+      same = λ e m. let yes = rw n at g.runs in rw (o, j e m, i) (rw (q, f.here, ← yes) at f.same e m);
     }
 
-    pub going_last : {z : Bool} → r ≡ End → ((e : Expr) → Automates a e → z ≡ (eqb x y && any (accepts e) (states_of s)))
-        → (e : Expr) → Automates a e → z ≡ (runs_in (drop 1 ws) root && goes_in ws e y root (0 ∷ []) (drop 1 (words walk)))
-    unfolding goes
-    going_last t g e m = g e m ∙ (rw (ne_eqb at 0 n, (ended {s = walk} {k = k} t q).none) at (f.same e m))
+  pub going_last : {z : Bool} → vs ≡ [] → ((e : Expr) → Automates a e → z ≡ (eqb x y && any (accepts e) (states_of s)))
+      → (e : Expr) → Automates a e → z ≡ (runs_in (drop 1 ws) root && goes_in ws e y root (0 ∷ []) (drop 1 (words walk)))
+  unfolding goes
+  going_last q g e m = g e m ∙ (rw q at f.same e m)
 
 -- ---- the answer
 
-pub laid : (s : List ℕ) {k h : ℕ} → k ≡ size_check walk_words s → h ≡ get_or (words s) 0 0
-    → (eqb k 0 && eqb (length s / 4) h) ≡ (eqb (size_check walk_words s) 0 && headed (words s))
-laid s e g = rw (e, g, eqb_sym (length s / 4) (get_or (words s) 0 0)) (by (words s) (words_length s) (either (eqb (size_check walk_words s) 0)))
+ok_number : {T : Type 0} (r : Result T Refusal) → is_ok r ≡ eqb (number {T = T} r) 0
+ok_number (Ok x) = refl
+ok_number (Err e) = sym (ne_eqb (code e) 0 (code_some e))
+
+pub laid : (s : List ℕ) {T : Type 0} (k : Result T Refusal) {b : Bool} {h : ℕ} → number k ≡ size_check walk_words s → b ≡ is_ok k → h ≡ get_or (words s) 0 0
+    → (b && eqb (length s / 4) h) ≡ (eqb (size_check walk_words s) 0 && headed (words s))
+laid s k e i g = rw (i, ok_number k, e, g, eqb_sym (length s / 4) (get_or (words s) 0 0)) (by (words s) (words_length s) (either (eqb (size_check walk_words s) 0)))
   where
     by : (ws : List ℕ) → length ws ≡ length s / 4 → (eqb (size_check walk_words s) 0 ≡ true) ⊎ (eqb (size_check walk_words s) 0 ≡ false)
         → (eqb (size_check walk_words s) 0 && eqb (get_or ws 0 0) (length s / 4)) ≡ (eqb (size_check walk_words s) 0 && headed ws)

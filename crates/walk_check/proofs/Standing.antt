@@ -14,17 +14,14 @@ use Rattle.sets.specs.Sets.{Mem, here, there, Ascending, filter, member}
 use Rattle.sets.proofs.Tests.{either, is_true, passed, same_test, and_iff, eq_iff, not_iff}
 use Rattle.sets.proofs.Cases.{clash, and_left, and_right}
 use Rattle.sets.proofs.Filter.{map_filter_iff}
-use Rattle.files.specs.declared.cursor.Cursor.{Cursor}
-use Rattle.files.specs.declared.cursor.Step.{Step}
-use Rattle.files.specs.declared.cursor.Step.TheVariants.{Word, End}
-use Rattle.files.specs.Word.{words}
-use Rattle.files.specs.Read.{read_at}
+use Rattle.std.specs.Prelude.{Option, Some, None}
+use Rattle.files.specs.declared.word.Words.{Words}
+use Rattle.files.specs.Read.{left_of}
 use Rattle.files.specs.Field.{node_of, stopped_of, target_of}
 use Rattle.files.specs.Part as part
 use Rattle.files.specs.Part.{is_node, is_edge, is_root, nodes, roots, front, whole_check}
 use Rattle.files.proofs.Parts.{whole_part, nodes_ascending}
 use Rattle.files.proofs.Blocks.{stopped_nodes}
-use Rattle.files.proofs.Reading.{taken, ended}
 use Rattle.kinds.specs.Seek.{FirstThat}
 use Rattle.kinds.proofs.Roots.{root_marked, marked_root}
 use Rattle.file_walks.specs.Walks.{runs_in}
@@ -73,69 +70,64 @@ module _ (w : ℕ) (ws : List ℕ) (x : ℕ) where
             ((passed_over (λ w. is_node w && stopped_of w) w x ws (λ s k. (not_iff (stopped_of w)).0 t ((and_iff (is_node w) (stopped_of w)).0 s).1)).0 m)),
       ))
 
--- the words from k on tell of x what all of them tell
-pub record Seeking (s : List ℕ) (x k : ℕ) : Type 0 where
-  pub rises : Ascending (nodes (drop k (words s)))
-  pub runs : runs_in (drop k (words s)) x ≡ runs_in (drop 1 (words s)) x
-  pub edges : part.edges (drop k (words s)) x ≡ part.edges (drop 1 (words s)) x
+-- the words ws that are left tell of x what all words behind the header of fs tell
+pub record Seeking (fs : List ℕ) (x : ℕ) (ws : List ℕ) : Type 0 where
+  pub rises : Ascending (nodes ws)
+  pub runs : runs_in ws x ≡ runs_in (drop 1 fs) x
+  pub edges : part.edges ws x ≡ part.edges (drop 1 fs) x
 
-pub seeking_first : (s : List ℕ) (x : ℕ) → whole_check (words s) ≡ 0 → Seeking s x 1
-seeking_first s x c = record { rises = nodes_ascending (words s) (whole_part (words s) c); runs = refl; edges = refl }
+pub seeking_first : (ws : List ℕ) (x : ℕ) {us : List ℕ} → whole_check ws ≡ 0 → us ≡ drop 1 ws → Seeking ws x us
+seeking_first ws x c e = record { rises = rw e (nodes_ascending ws (whole_part ws c)); runs = rw e; edges = rw e }
 
 rest_rises : (w : ℕ) (ws : List ℕ) → Ascending (nodes (w ∷ ws)) → Ascending (nodes ws)
 rest_rises w ws a = elim (either (is_node w)) [ inl e ↦ (rw e at a).1 | inr e ↦ rw e at a ]
 
-module _ {s : List ℕ} {x k : ℕ} {r : Step} (f : Seeking s x k) (q : r ≡ read_at s k) where
-  module _ {w : ℕ} {c : Cursor} {b : Bool} (a : r ≡ Word w c) (e : b ≡ (is_node w && eqb (node_of w) x)) where
-    rises : Ascending (nodes (w ∷ drop c.at (words s)))
-    rises = rw (taken {s = s} {k = k} a q).left at f.rises
+module _ {fs : List ℕ} {x : ℕ} {vs : List ℕ} (f : Seeking fs x vs) where
+  module _ {w : ℕ} {ws : List ℕ} {b : Bool} (q : vs ≡ w ∷ ws) (e : b ≡ (is_node w && eqb (node_of w) x)) where
+    rises : Ascending (nodes (w ∷ ws))
+    rises = rw q at f.rises
 
-    found : b ≡ true → runs_in (drop 1 (words s)) x ≡ not (stopped_of w)
-    found h = sym f.runs ∙ rw (taken {s = s} {k = k} a q).left (runs_here w (drop c.at (words s)) x rises (sym e ∙ h))
+    found : b ≡ true → runs_in (drop 1 fs) x ≡ not (stopped_of w)
+    found h = sym f.runs ∙ rw q (runs_here w ws x rises (sym e ∙ h))
 
-    pub seeking_stopped : {v : Bool} → b ≡ true → v ≡ stopped_of w → v ≡ true → Begins (words s) x 0
-    seeking_stopped h g i = record { runs = sym (found h ∙ rw (← g, i)); edges = λ z. absurd (z refl) }
+    pub seeking_stopped : {v : Bool} → b ≡ true → v ≡ stopped_of w → v ≡ true → Begins fs x None
+    seeking_stopped h g i = record { runs = sym (found h ∙ rw (← g, i)); edges = tt }
 
-    pub seeking_found : {v : Bool} → b ≡ true → v ≡ stopped_of w → v ≡ false → Begins (words s) x c.at
-    seeking_found h g i =
-        let t = taken {s = s} {k = k} a q in
-        let n = ne_eqb c.at 0 (λ z. omega (arith, t.next)) in
-        record { runs = rw n (sym (found h ∙ rw (← g, i))); edges = λ z. sym f.edges ∙ rw (t.left, ← e, h) }
+    pub seeking_found : {v : Bool} (at : Words) → left_of at ≡ ws → b ≡ true → v ≡ stopped_of w → v ≡ false → Begins fs x (Some at)
+    seeking_found at l h g i = record { runs = sym (found h ∙ rw (← g, i)); edges = sym f.edges ∙ rw (q, l, ← e, h) }
 
-    pub seeking_more : b ≡ false → Seeking s x c.at
-    seeking_more h =
-        let t = taken {s = s} {k = k} a q in
-        record {
-          rises = rest_rises w (drop c.at (words s)) rises;
-          runs = sym (runs_other w (drop c.at (words s)) x (sym e ∙ h)) ∙ (rw t.left at f.runs);
-          edges = rw (t.left, ← e, h) at f.edges;
-        }
+    pub seeking_more : b ≡ false → Seeking fs x ws
+    seeking_more h = record {
+      rises = rest_rises w ws rises;
+      runs = sym (runs_other w ws x (sym e ∙ h)) ∙ (rw q at f.runs);
+      edges = rw (q, ← e, h) at f.edges;
+    }
 
-  pub seeking_last : r ≡ End → Begins (words s) x 0
-  seeking_last a = record { runs = rw (ended {s = s} {k = k} a q).none at f.runs; edges = λ z. absurd (z refl) }
+  pub seeking_last : vs ≡ [] → Begins fs x None
+  seeking_last q = record { runs = rw q at f.runs; edges = tt }
 
 -- ---- a step
 
--- whether w is among the edge words from k on
-pub record Fronting (w : ℕ) (s : List ℕ) (x : Bool) (k : ℕ) : Type 0 where
-  pub same : member w (front (drop k (words s))) ≡ x
+-- whether w is among the edge words at the front of the words vs that are left
+pub record Fronting (w : ℕ) (x : Bool) (vs : List ℕ) : Type 0 where
+  pub same : member w (front vs) ≡ x
 
-module _ {w : ℕ} {s : List ℕ} {x : Bool} {k : ℕ} {r : Step} (f : Fronting w s x k) (q : r ≡ read_at s k) where
-  module _ {v : ℕ} {c : Cursor} {b : Bool} (a : r ≡ Word v c) (e : b ≡ is_edge v) where
+module _ {w : ℕ} {x : Bool} {vs : List ℕ} (f : Fronting w x vs) where
+  module _ {v : ℕ} {ws : List ℕ} {b : Bool} (q : vs ≡ v ∷ ws) (e : b ≡ is_edge v) where
     pub fronting_found : b ≡ true → w ≡ v → true ≡ x
-    fronting_found h i = let t = taken {s = s} {k = k} a q in rw (← f.same, t.left, ← e, h, eq-eqb w v i)
+    fronting_found h i = rw (← f.same, q, ← e, h, eq-eqb w v i)
 
-    pub fronting_more : b ≡ true → (w ≡ v → ⊥) → Fronting w s x c.at
-    fronting_more h i = let t = taken {s = s} {k = k} a q in record { same = rw (t.left, ← e, h, ne_eqb w v i) at f.same }
+    pub fronting_more : b ≡ true → (w ≡ v → ⊥) → Fronting w x ws
+    fronting_more h i = record { same = rw (q, ← e, h, ne_eqb w v i) at f.same }
 
     pub fronting_other : b ≡ false → false ≡ x
-    fronting_other h = let t = taken {s = s} {k = k} a q in rw (← f.same, t.left, ← e, h)
+    fronting_other h = rw (← f.same, q, ← e, h)
 
-  pub fronting_last : r ≡ End → false ≡ x
-  fronting_last a = rw (← f.same, (ended {s = s} {k = k} a q).none)
+  pub fronting_last : vs ≡ [] → false ≡ x
+  fronting_last q = rw (← f.same, q)
 
-pub entered : (ws : List ℕ) (at w : ℕ) {b : Bool} {t r : ℕ} → b ≡ member w (front (drop at ws)) → b ≡ true → t ≡ target_of w → Begins ws t r → Enters ws at w r
+pub entered : (ws at : List ℕ) (w : ℕ) {b : Bool} {t : ℕ} {r : Option Words} → b ≡ member w (front at) → b ≡ true → t ≡ target_of w → Begins ws t r → Enters ws at w r
 entered ws at w e h q g = record { runs = rw (← e, h, ← q) g.runs; edges = rw (← q) g.edges }
 
-pub not_entered : (ws : List ℕ) (at w : ℕ) {b : Bool} → b ≡ member w (front (drop at ws)) → b ≡ false → Enters ws at w 0
-not_entered ws at w e h = record { runs = rw (← e, h); edges = λ z. absurd (z refl) }
+pub not_entered : (ws at : List ℕ) (w : ℕ) {b : Bool} → b ≡ member w (front at) → b ≡ false → Enters ws at w None
+not_entered ws at w e h = record { runs = rw (← e, h); edges = tt }

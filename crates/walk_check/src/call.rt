@@ -19,11 +19,10 @@ ghost use Rattle.walk_check.specs.Check.{headed, says_yes, leaves_checked, leave
 
 use crate::plant::{behind, enter, root_of};
 use files::buffer::clear;
-use files::cursor::{Cursor, Step};
 use files::field::{label, target};
 use files::limits::{SHOWN_WORDS, WALK_WORDS};
-use files::refuse::{check_size, choose};
-use files::word::word_at;
+use files::refuse::check_size;
+use files::word::{Words, word_at};
 use groups::table::our_groups;
 use paths::automaton::{Automaton, position_automaton};
 use walk_steps::stepping::{accepting, advance};
@@ -36,30 +35,26 @@ fn ends(a: Automaton, x: u32, node: u32, s: u16) -> bool
     (x == node) & accepting(a, s)
 }
 
-// Whether the walk's words lead from the root to the node: x is where the walk stands, and `at` where its edge words begin.
+// Whether the walk's words lead from the root to the node: x is where the walk stands, and `at` begins with its edge words.
 fn leads(whole: &[u8], a: Automaton, root: u32, node: u32, walk: &[u8]) -> bool
     requires { whole_check (words whole.now) ≡ 0 }
     ensures { (e : Expr) → Automates a e → result ≡ (runs_in (drop 1 (words whole.now)) root
         && goes holds (runs_in (drop 1 (words whole.now))) (drop 1 (words whole.now)) e node root (0 ∷ []) (drop 1 (words walk.now))) }
 {
+    let Some(mut at) = behind(whole, root) else {
+        return false;
+    };
     let mut x = root;
-    let mut at = behind(whole, root);
     let mut s: u16 = 1;
-    let mut cur = Cursor { at: 1 };
-    while at != 0 {
-        match cur.read(walk) {
-            Step::Word(w, next) => {
-                at = enter(whole, at, w);
-                s = advance(a, s, label(w));
-                x = target(w);
-                cur = next;
-            }
-            Step::End => {
-                return ends(a, x, node, s);
-            }
+    for w in Words::body(walk) {
+        match enter(whole, at, w) {
+            Some(next) => at = next,
+            None => return false,
         }
+        s = advance(a, s, label(w));
+        x = target(w);
     }
-    false
+    ends(a, x, node, s)
 }
 
 // Whether the bytes are in fours, some, not over 4,096 words, and the header just their count.
@@ -67,7 +62,7 @@ fn laid_out(walk: &[u8]) -> bool
     ensures { result ≡ (eqb (size_check walk_words walk.now) 0 && headed (words walk.now)) }
 {
     let n = word_at(walk, 0) as usize;
-    (check_size(walk, WALK_WORDS) == 0) & (walk.len() / 4 == n)
+    check_size(walk, WALK_WORDS).is_ok() & (walk.len() / 4 == n)
 }
 
 // The checker's answer.
@@ -96,14 +91,18 @@ pub fn check_walk_grouped(
     ensures { left_lent yes.new (left result [] work.new)
         ≡ leaves_checked_grouped (length work.old) whole.now groups.now path.now node walk.now }
 {
-    let number = check(0, SHOWN_WORDS, whole, groups, path, 0, work);
+    let outcome = check(0, SHOWN_WORDS, whole, groups, path, 0, work);
     clear(work);
-    if number != 0 {
-        *yes = 0;
-        return number;
+    match outcome {
+        Ok(()) => {
+            *yes = u32::from(says_yes(whole, groups, path, node, walk));
+            0
+        }
+        Err(refusal) => {
+            *yes = 0;
+            refusal.code()
+        }
     }
-    *yes = choose(says_yes(whole, groups, path, node, walk), 1, 0);
-    0
 }
 
 // Without groups: the same with our own.

@@ -2,14 +2,14 @@
 ghost use Rattle.std.specs.Prelude.{◌≡◌, ◌&&◌, [], ◌∷◌, eqb, drop};
 ghost use Rattle.sets.specs.Sets.{member};
 ghost use Rattle.files.specs.Word.{words};
+ghost use Rattle.files.specs.Read.{left_of};
 ghost use Rattle.files.specs.Field.{node_of};
 ghost use Rattle.files.specs.Part.{is_node, roots, front, whole_check};
 ghost use Rattle.walk_check.specs.Plant.{Begins, Enters};
 
-use files::cursor::{Cursor, Step};
 use files::field::{node, stopped, target};
 use files::part::{is_edge, is_node};
-use files::word::word_at;
+use files::word::{Words, word_at};
 use kinds::count::Mark;
 use kinds::find::find_kind;
 
@@ -29,59 +29,44 @@ fn names(w: u32, x: u32) -> bool
     is_node(w) & (node(w) == x)
 }
 
-// Where the edge words of the node x begin; 0 if it does not run.
-pub fn behind(whole: &[u8], x: u32) -> usize
+// The words behind that of the node x, its edge words first; none if it does not run.
+pub fn behind(whole: &[u8], x: u32) -> Option<Words>
     requires { whole_check (words whole.now) ≡ 0 }
     ensures { Begins (words whole.now) x result }
 {
-    let mut cur = Cursor { at: 1 };
-    loop {
-        match cur.read(whole) {
-            Step::Word(w, next) => {
-                cur = next;
-                if names(w, x) {
-                    let at = cur.at;
-                    return if stopped(w) { 0 } else { at };
-                }
-            }
-            Step::End => {
-                return 0;
-            }
+    let mut body = Words::body(whole);
+    while let Some(w) = body.next() {
+        if names(w, x) {
+            return if stopped(w) { None } else { Some(body) };
         }
     }
+    None
 }
 
-// Whether w is one of the edge words from `start` on.
-fn in_front(whole: &[u8], start: Cursor, w: u32) -> bool
-    ensures { result ≡ member w (front (drop start.at (words whole.now))) }
+// Whether w is one of the edge words at the front.
+fn in_front(at: Words, w: u32) -> bool
+    ensures { result ≡ member w (front (left_of at.entry)) }
 {
-    let mut cur = start;
-    loop {
-        match cur.read(whole) {
-            Step::Word(v, next) => {
-                if is_edge(v) {
-                    if w == v {
-                        return true;
-                    }
-                    cur = next;
-                } else {
-                    return false;
-                }
-            }
-            Step::End => {
-                return false;
-            }
+    for v in at {
+        if !is_edge(v) {
+            return false;
+        }
+        if w == v {
+            return true;
         }
     }
+    false
 }
 
-// By the word w from the node whose edge words begin at `at`: where those of its target begin; 0 if w is none of them or the target does not run.
-pub fn enter(whole: &[u8], at: usize, w: u32) -> usize
+// By the word w from the node whose edge words are at the front: the words behind that of its target; none if w is none of them or the target
+// does not run.
+pub fn enter<'a>(whole: &'a [u8], at: Words<'a>, w: u32) -> Option<Words<'a>>
     requires { whole_check (words whole.now) ≡ 0 }
-    ensures { Enters (words whole.now) at w result }
+    ensures { Enters (words whole.now) (left_of at.entry) w result }
 {
-    if in_front(whole, Cursor { at }, w) {
-        return behind(whole, target(w));
+    if in_front(at, w) {
+        behind(whole, target(w))
+    } else {
+        None
     }
-    0
 }

@@ -126,8 +126,8 @@ module _ (n m : ℕ) (whole groups path : List ℕ) (y : ℕ) where
   inputs = input shown_words whole (whole_check (words whole)) ∷ also (groups_check groups) ∷ input path_words path (path_check (words path)) ∷ []
 
   -- buffers or inputs are refused
-  pub answers_refused : (out : List ℕ) {k : ℕ} → Checked walk_words n m inputs k → (k ≡ 0 → ⊥) → Responds (walk_grouped_call n m whole groups path y) n out k
-  answers_refused out c h = rw (grouped_is n m whole groups path y) (answer_refused _ walk_words _ n out (refused_first (grouped_checks n m whole groups path y) _ h c.is) h)
+  pub answers_refused : (out : List ℕ) {k r : ℕ} → Checked walk_words n m inputs k → r ≡ k → (k ≡ 0 → ⊥) → Responds (walk_grouped_call n m whole groups path y) n out r
+  answers_refused out c e h = rw e (rw (grouped_is n m whole groups path y) (answer_refused _ walk_words _ n out (refused_first (grouped_checks n m whole groups path y) _ h c.is) h))
 
   module _ (p : Passed walk_words n m inputs) where
     all_zero : grouped_checks n m whole groups path y ≡ 0

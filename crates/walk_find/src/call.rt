@@ -1,6 +1,7 @@
 // The calls for the walk beside a listed node.
 ghost use Rattle.std.specs.Prelude.{◌≡◌, true, List, [], ◌∷◌, ℕ, length, drop, IfSome};
 ghost use Rattle.files.specs.Word.{words};
+ghost use Rattle.files.specs.Refusal.{number};
 ghost use Rattle.files.specs.Outcome.{left, leaves};
 ghost use Rattle.files.specs.Part.{whole_check};
 ghost use Rattle.files.specs.Path.{path_check};
@@ -19,6 +20,7 @@ ghost use Rattle.walk_find.specs.Measured.{links_by, Measured};
 
 use files::buffer::clear;
 use files::limits::{SHOWN_WORDS, WALK_WORDS};
+use files::refusal::Refusal;
 use groups::table::our_groups;
 use kinds::count::Mark;
 use kinds::find::find_kind;
@@ -55,11 +57,11 @@ fn find(asked: &Asked, node: u32, out: &mut [u8], work: &mut [u8]) -> Option<Bes
     Some(Best { root, links })
 }
 
-// Writes the file of the walk that the distances choose.
-fn write(asked: &Asked, best: Best, out: &mut [u8], work: &[u8]) -> u32
+// Writes the file of the walk that the distances choose. Refuses one over its limit, and no other.
+fn write(asked: &Asked, best: Best, out: &mut [u8], work: &[u8]) -> Result<(), Refusal>
     requires { Measurable (words asked.now.whole.now) work.now out.old × Edged (words asked.now.whole.now) asked.now.automaton work.now × (node_at (words asked.now.whole.now) best.root ≡ true) }
     ensures { (e : Expr) → Automates asked.now.automaton e
-        → Filed walk_words (length out.old) (walk_file (links_by (words asked.now.whole.now) work.now e best.root best.links)) out.new result }
+        → Filed walk_words (length out.old) (walk_file (links_by (words asked.now.whole.now) work.now e best.root best.links)) out.new (number result) }
 {
     clear(out);
     let rows = Rows {
@@ -71,21 +73,28 @@ fn write(asked: &Asked, best: Best, out: &mut [u8], work: &[u8]) -> u32
 }
 
 // The walk of accepted inputs, or 20 where the node has none from the root.
-fn show(whole: &[u8], groups: &[u8], path: &[u8], node: u32, out: &mut [u8], work: &mut [u8]) -> u32
+fn show(
+    whole: &[u8],
+    groups: &[u8],
+    path: &[u8],
+    node: u32,
+    out: &mut [u8],
+    work: &mut [u8],
+) -> Result<(), Refusal>
     requires { Passed walk_words (length out.old) (length work.old)
         (input shown_words whole.now (whole_check (words whole.now)) ∷ also (groups_check groups.now) ∷ input path_words path.now (path_check (words path.now)) ∷ []) }
     ensures { Responds (walk_grouped_call (length out.old) (length work.old) whole.now groups.now path.now node)
-        (length out.old) out.new result }
+        (length out.old) out.new (number result) }
 {
     let automaton = position_automaton(path, groups);
     let asked = Asked { whole, automaton };
     match find(&asked, node, out, work) {
         Some(best) => write(&asked, best, out, work),
-        None => 20,
+        None => Err(Refusal::NoWalk),
     }
 }
 
-// The walk, or the number of the check that refuses.
+// The walk, or the refusal of a check.
 fn answer(
     whole: &[u8],
     groups: &[u8],
@@ -93,11 +102,11 @@ fn answer(
     node: u32,
     out: &mut [u8],
     work: &mut [u8],
-) -> u32
+) -> Result<(), Refusal>
     ensures { Responds (walk_grouped_call (length out.old) (length work.old) whole.now groups.now path.now node)
-        (length out.old) out.new result }
+        (length out.old) out.new (number result) }
 {
-    let n = check_inputs(
+    check_inputs(
         WALK_WORDS,
         SHOWN_WORDS,
         whole,
@@ -105,10 +114,7 @@ fn answer(
         path,
         out.len(),
         work,
-    );
-    if n != 0 {
-        return n;
-    }
+    )?;
     show(whole, groups, path, node, out, work)
 }
 
@@ -125,8 +131,8 @@ pub fn walk_grouped(
         ≡ leaves (walk_grouped_call (length out.old) (length work.old) whole.now groups.now path.now node)
         (length out.old) (length work.old) }
 {
-    let number = answer(whole, groups, path, node, out, work);
-    settle(number, out, work)
+    let outcome = answer(whole, groups, path, node, out, work);
+    settle(outcome, out, work)
 }
 
 // Without groups: the same with our own.

@@ -6,5 +6,5 @@ use Rattle.walk_check.proofs.plant.enter.Goals as goal
 pub returns-then-in_front : goal.returns-then-in_front
 returns-then-in_front c = search (entered, rules)
 
-pub returns : goal.returns
-returns c = search (not_entered, rules)
+pub returns-else-in_front : goal.returns-else-in_front
+returns-else-in_front c = search (not_entered, rules)
