@@ -1,9 +1,7 @@
 // The rows behind a door followed: their pairs are entered, up to the first that names no door.
 ghost use Rattle.std.specs.Prelude.{◌<◌, length, suc, drop, MatchOption};
-ghost use Rattle.sets.specs.Sets.{Mem};
 ghost use Rattle.files.specs.Word.{words};
-ghost use Rattle.files.specs.Reply.{doors as doorList};
-ghost use Rattle.door_index.specs.Index.{DoorAt, Indexed};
+ghost use Rattle.door_index.specs.Index.{Indexed};
 ghost use Rattle.hub_search.specs.Search.{Roomy, Waiting, InRows, Stray, Followed};
 
 use crate::enter::enter;
@@ -14,24 +12,9 @@ use files::word::word_at;
 use row_scan::rows::{Rows, in_rows, is_followed, reach_node, turn};
 use sets::table::get16;
 
-// The place of x's door, looked for from where the index has those of its sixteen nodes; none where x is no door.
-fn find_door(bundle: &[u8], counts: &[u8], work: &[u8], doors: usize, x: u32) -> Option<usize>
-    requires indexed { Indexed (words bundle.now) counts.now work.now doors × Roomy (words bundle.now) doors work.now }
-    requires node { x < 65536 }
-    ensures { MatchOption result (¬ Mem x (doorList (words bundle.now))) (λ j. DoorAt (words bundle.now) x j) }
-{
-    let start = get16(counts, COUNTS, (x / 16) as usize) as usize;
-    for at in start..doors {
-        let j = get16(work, INDEX, at) as usize;
-        if is_door_of(x, word_at(bundle, j)) {
-            return Some(j);
-        }
-    }
-    None
-}
-
-// Follows the rows of the states of s behind the door at i: enters the pairs of their reach words, each at its door. Gives the stack's height, or
-// none at the first reach word whose node is no door.
+// Follows the rows of the states of s behind the door at i: enters the pairs of their reach words, each at its door, which is looked for from
+// where the index has those of its sixteen nodes. Gives the stack's height, or none at a stray: at the first reach word whose node is no door the
+// scan stops, out of both loops. Each loop has one place more than there are words or doors: there the rows end, and there the node is no door.
 pub fn follow_rows(
     bundle: &[u8],
     counts: &[u8],
@@ -48,16 +31,26 @@ pub fn follow_rows(
 {
     let mut rows = Rows { left: s, on: false };
     let mut top = height;
-    for k in i + 1..bundle.len() / 4 {
+    'words: for k in i + 1..=bundle.len() / 4 {
         let w = word_at(bundle, k);
         if !in_rows(w) {
-            break;
+            return Some(top);
         }
         rows = turn(rows, w);
         if is_followed(rows, w) {
-            let j = find_door(bundle, counts, work, doors, reach_node(w))?;
-            top = enter(bundle, work, doors, j, state(w), top);
+            let x = reach_node(w);
+            let start = get16(counts, COUNTS, (x / 16) as usize) as usize;
+            for at in start..doors + 1 {
+                if at == doors {
+                    break 'words;
+                }
+                let j = get16(work, INDEX, at) as usize;
+                if is_door_of(x, word_at(bundle, j)) {
+                    top = enter(bundle, work, doors, j, state(w), top);
+                    break;
+                }
+            }
         }
     }
-    Some(top)
+    None
 }
