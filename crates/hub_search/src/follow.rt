@@ -13,8 +13,8 @@ use row_scan::rows::{Rows, in_rows, is_followed, reach_node, turn};
 use sets::table::get16;
 
 // Follows the rows of the states of s behind the door at i: enters the pairs of their reach words, each at its door, which is looked for from
-// where the index has those of its sixteen nodes. Gives the stack's height, or none at a stray: the first reach word whose node is no door ends
-// both loops.
+// where the index has those of its sixteen nodes. Gives the stack's height, or none at a stray: at the first reach word whose node is no door the
+// scan stops, out of both loops. Each loop has one place more than there are words or doors: there the rows end, and there the node is no door.
 pub fn follow_rows(
     bundle: &[u8],
     counts: &[u8],
@@ -31,29 +31,26 @@ pub fn follow_rows(
 {
     let mut rows = Rows { left: s, on: false };
     let mut top = height;
-    let mut stray = false;
-    'words: for k in i + 1..bundle.len() / 4 {
+    'words: for k in i + 1..=bundle.len() / 4 {
         let w = word_at(bundle, k);
         if !in_rows(w) {
-            break;
+            return Some(top);
         }
         rows = turn(rows, w);
         if is_followed(rows, w) {
             let x = reach_node(w);
-            let mut at = get16(counts, COUNTS, (x / 16) as usize) as usize;
-            let j = loop {
+            let start = get16(counts, COUNTS, (x / 16) as usize) as usize;
+            for at in start..doors + 1 {
                 if at == doors {
-                    stray = true;
                     break 'words;
                 }
                 let j = get16(work, INDEX, at) as usize;
                 if is_door_of(x, word_at(bundle, j)) {
-                    break j;
+                    top = enter(bundle, work, doors, j, state(w), top);
+                    break;
                 }
-                at += 1;
-            };
-            top = enter(bundle, work, doors, j, state(w), top);
+            }
         }
     }
-    if stray { None } else { Some(top) }
+    None
 }
