@@ -2,8 +2,9 @@
 use mathlib.Core.Path.{◌≡◌, refl}
 use mathlib.Core.Logic.{◌↔◌}
 use mathlib.Core.List.{List, [], ◌∷◌, map, flatten}
-use Prim.Native.Nat.{ℕ, zero, suc, ◌+◌, ◌-◌, ◌*◌, ◌≤◌}
+use Prim.Native.Nat.{ℕ, zero, suc, ◌+◌, ◌-◌, ◌*◌, ◌^◌, ◌≤◌, ◌<◌}
 use native.Mathlib.Omega.{arith}
+use native.Mathlib.Nat.{le_trans, mul-le-mul_left, mul-le-mul_right}
 use lib.ListN.{length, length-append, length-map}
 use Rattle.sets.specs.Sets.{span}
 use Rattle.sets.proofs.Spans.{span_length}
@@ -44,3 +45,9 @@ rest_length (suc k) = omega (arith, rest_length k)
 pub path_fits : (n : ℕ) → 1 ≤ n → length (dear_path n) ≡ 2 * n + 1
 unfolding dear_path
 path_fits n h = omega (arith, rest_length (n - 1))
+
+-- sixty-four bits hold the count of the part's words
+pub product_fits : (D T : ℕ) → D < 2 ^ 32 → T < 2 ^ 32 → D * (1 + T) ≤ (2 ^ 32 - 1) * 2 ^ 32
+product_fits D T h k =
+    let l : D ≤ 2 ^ 32 - 1 = omega arith in
+    le_trans (mul-le-mul_left D (omega arith)) (mul-le-mul_right (2 ^ 32) l)
