@@ -18,7 +18,8 @@ use Rattle.slots.specs.Slots.{owners_base, node_at}
 use Rattle.slots.proofs.Places.{node_below, edge_no_node}
 use Rattle.walk_rows.specs.Distances.{numbered, Hit}
 use Rattle.walk_rows.proofs.Cells.{hit_apart, hit_grown, numbered_apart, numbered_stays}
-use Rattle.walk_links.specs.Tables.{first_base, heads_base, target_at, mask_at, next_at, Measurable, EdgeRow, Edged}
+use Rattle.walk_links.specs.Tables.{first_base, heads_base, Measurable, Edged}
+use Rattle.walk_links.proofs.Linking.{row_kept}
 use Rattle.walk_distances.specs.Rounds.{Waiting, IsList, Ready, Written}
 
 -- ---- what is written
@@ -46,19 +47,10 @@ pub list_room : {ws w o : List ℕ} {base : ℕ} → IsList base → Measurable 
 list_room l m = ⊎_elim (λ e. omega (arith, m.holds)) (λ e. omega (arith, m.holds)) l
 
 -- the tables of the edges are still there
-row_same : {ws : List ℕ} {a : Automaton} {w w' : List ℕ} {x : ℕ} → target_at w' x ≡ target_at w x → mask_at w' x ≡ mask_at w x → next_at w' x ≡ next_at w x
-    → EdgeRow ws a w x → EdgeRow ws a w' x
-row_same t m n r = record {
-  node = rw t r.node;
-  target = rw t r.target;
-  mask = λ p. rw (t, m) (r.mask p);
-  next = n ∙ r.next;
-}
-
 pub edged_written : {ws : List ℕ} {a : Automaton} {to v : ℕ} {w w' o o' : List ℕ} → Written ws to v w w' o o' → Edged ws a w → Edged ws a w'
 edged_written f e x i =
     let z : 16 * x ≡ 16 * x + 0 = omega arith in
-    row_same (rw z (f.rows x 0 i (omega arith))) (f.rows x 1 i (omega arith)) (f.rows x 2 i (omega arith)) (e x i)
+    row_kept _ _ _ _ _ (rw z (f.rows x 0 i (omega arith))) (f.rows x 1 i (omega arith)) (f.rows x 2 i (omega arith)) (e x i)
 
 pub ready_written : {ws : List ℕ} {a : Automaton} {to v : ℕ} {w w' o o' : List ℕ} → IsList to → Written ws to v w w' o o' → Ready ws a w o → Ready ws a w' o'
 ready_written {ws} {o = o} {o' = o'} l f r =
