@@ -16,4 +16,4 @@ returns-in_err-end c =
 pub returns : goal.returns
 returns c =
     let a = c.args in
-    path_answered a.part.now a.groups.now a.path.now c.in_ok-end.ensures refl c.clear.ensures (search rules) c.ensure.ensures
+    path_answered a.part.now a.groups.now a.path.now c.in_ok-end.ensures refl (search rules) (search rules) c.ensure.ensures
