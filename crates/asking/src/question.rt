@@ -8,7 +8,7 @@ use bundles::bundle::Trip;
 use files::limits::REPLY_WORDS;
 use mowqachi::mowqachi_cut;
 use path_bundles::split::file_in;
-use sets::states::{lowest, without_lowest};
+use sets::states::StateSet;
 use std::io::Stdout;
 
 // The bytes of an output for a part or a reply.
@@ -40,13 +40,10 @@ pub fn cut_parts(
     requires { slots ≤ length parts.old }
     ensures { slots ≤ length parts.new }
 {
-    let mut left = sites;
-    while 0 < left {
-        let site = lowest(left);
+    for site in StateSet(sites) {
         let at = site as usize * SLOT;
         let end = at + SLOT;
         cut_part(to, whole, cuts, site, &mut parts[at..end], work)?;
-        left = without_lowest(left);
     }
     Ok(())
 }
@@ -78,12 +75,10 @@ fn gather(
     ensures within { IfOk result (λ end. end ≤ length bundle.new) }
 {
     let mut end = 0;
-    let mut left = sites;
-    while 0 < left {
+    for site in StateSet(sites) {
         let next = end + SLOT;
-        let part = part_of(parts, lowest(left));
+        let part = part_of(parts, site);
         end += site_file(to, trip, part, path, calls, &mut bundle[end..next], work)?;
-        left = without_lowest(left);
     }
     Ok(end)
 }
