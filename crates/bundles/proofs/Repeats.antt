@@ -5,7 +5,7 @@ use mathlib.Core.Bool.{Bool, true, false, not, ◌&&◌, ◌||◌}
 use mathlib.Core.List.{List, [], ◌∷◌, map}
 use Prim.Native.Nat.{ℕ, zero, suc, ◌+◌, ◌-◌, ◌/◌, ◌≤◌, ◌<◌}
 use native.Mathlib.Omega.{arith}
-use borrow.Author.Tests.{eq-eqb, ne_eqb}
+use borrow.Author.Tests.{eq-eqb}
 use lib.Dec.{eqb}
 use lib.ListN.{length, get_or, drop, length-drop}
 use lib.Seq.{drop-drop}
@@ -76,7 +76,6 @@ repeating_first k {us} {d = d} e h z =
 module _ {k : ℕ} {d work vs : List ℕ} {x : Bool} (f : Repeating k d x work vs) where
   -- a word of kind j is the next
   module _ {w j : ℕ} {ws : List ℕ} (a : vs ≡ w ∷ ws) (e : j ≡ kind_of w) where
-
     module _ {v : ℕ} {b : Bool} (i : j ≡ k) (g : v ≡ node_of w) (o : b ≡ has_node work 0 v) where
       here : (b || stale (λ y. has_node work 0 y || eqb y v) (nodes_of k ws)) ≡ x
       here = rw (o, g) (rw (a, eq-eqb (kind_of w) k (sym e ∙ i)) at f.same)
