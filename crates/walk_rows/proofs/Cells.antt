@@ -6,8 +6,7 @@ use mathlib.Core.List.{List}
 use Prim.Native.Nat.{ℕ, ◌+◌, ◌-◌, ◌*◌, ◌^◌, ◌≤◌, ◌<◌}
 use native.Mathlib.Nat.{pos_of_ne-zero}
 use native.Mathlib.Omega.{arith}
-use borrow.Author.Tests.{eq-eqb, eqb-true}
-use Rattle.std.proofs.lemmas.Grind.{common_steps}
+use borrow.Author.Tests.{eq-eqb, eqb-true, lt-ltb, le-ltb}
 use lib.Bits.{bit_and, and_le_r}
 use lib.Count.{count_trailing_zeros}
 use lib.Dec.{T, eqb, ltb}
@@ -44,10 +43,10 @@ meets a b small = same_test down up
         let g : has_state (bit_and a b) q ≡ true = has_and a b q ∙ and_intro _ _ (in_members (has_state a) 0 16 q i).2 (is_true (has_state b q) j) in
         (not_iff (eqb (bit_and a b) 0)).1 (λ z. clash (ap (λ r. has_state r q) (sym ((eq_iff (bit_and a b) 0).0 z)) ∙ g) (has_empty q))
 
--- r has the states below q that pass a test; r' has q too, where it passes
-pub gather_more : (test : ℕ → Bool) (q r r' : ℕ) {b : Bool} → ((p : ℕ) → has_state r p ≡ (ltb p q && test p)) → b ≡ test q
-    → ((p : ℕ) → has_state r' p ≡ (has_state r p || (eqb p q && b))) → (p : ℕ) → has_state r' p ≡ (ltb p (q + 1) && test p)
-gather_more test q r r' f e h p = grind (arith, common_steps)
+-- r has the states that pass a test, and no others
+pub gathered : (test : ℕ → Bool) (r : ℕ) → ((q : ℕ) → q < 16 → has_state r q ≡ test q) → ((q : ℕ) → 16 ≤ q → has_state r q ≡ false)
+    → (p : ℕ) → has_state r p ≡ (ltb p 16 && test p)
+gathered test r f o p = ⊎_elim (λ (l : p < 16). rw (f p l, lt-ltb p 16 l)) (λ (l : 16 ≤ p). rw (o p l, le-ltb p 16 l)) (lt_or_le p 16)
 
 -- ---- some state below n passes a test
 

@@ -1,5 +1,5 @@
 // Sixteen numbers, one for each state, at a word's position: which states have a number, and the next number for those that have none.
-ghost use Rattle.std.specs.Prelude.{◌≡◌, cond, not, ◌&&◌, ◌||◌, ℕ, ◌+◌, ◌*◌, ◌≤◌, ◌<◌, eqb, ltb, length, get_or};
+ghost use Rattle.std.specs.Prelude.{◌≡◌, false, cond, not, ◌&&◌, ℕ, ◌+◌, ◌*◌, ◌≤◌, ◌<◌, eqb, ltb, length, get_or};
 ghost use Rattle.sets.specs.Sets.{any};
 ghost use Rattle.sets.specs.States.{has_state, states_of};
 ghost use Rattle.sets.specs.Table.{half, put_half};
@@ -9,42 +9,35 @@ ghost use Rattle.walk_rows.specs.Distances.{numbered, Hit};
 use sets::states::{has, with};
 use sets::table::{get16, put16};
 
-// The set with the state q, where b says so.
-fn with_if(s: u16, q: u32, b: bool) -> u16
-    requires { q < 16 }
-    ensures { (p : ℕ) → has_state result p ≡ (has_state s p || (eqb p q && b)) }
+// The states that pass a test, which is put to each once.
+#[tactic(auto, using(sets::proofs::StateSets::has_empty))]
+fn gather<F: Fn(u32) -> bool>(test: F) -> u16
+    requires { (q : ℕ) → q < 16 → F.pre test q }
+    ensures tested { (q : ℕ) → q < 16 → F.post test q (has_state result q) }
+    ensures others { (q : ℕ) → 16 ≤ q → has_state result q ≡ false }
 {
-    if b {
-        return with(s, q);
+    let mut r: u16 = 0;
+    for q in 0..16 {
+        if test(q) {
+            r = with(r, q);
+        }
     }
-    s
+    r
 }
 
 // The states of a row that have the number v.
-#[tactic(auto, using(sets::proofs::StateSets::has_empty))]
 pub fn having(work: &[u8], i: usize, v: u16) -> u16
     requires { (i < shown_words) × (work_bytes ≤ length work.now) }
     ensures { (p : ℕ) → has_state result p ≡ (ltb p 16 && eqb (half work.now 0 (16 * i + p)) v) }
 {
-    let mut r: u16 = 0;
-    for q in 0..16 {
-        let at = 16 * i + q as usize;
-        r = with_if(r, q, get16(work, 0, at) == v);
-    }
-    r
+    gather(|q| get16(work, 0, 16 * i + q as usize) == v)
 }
 
 // The states that may be followed by one of f.
-#[tactic(auto, using(sets::proofs::StateSets::has_empty))]
 pub fn preceding(follow: [u16; 16], f: u16) -> u16
     ensures { (p : ℕ) → has_state result p ≡ (ltb p 16 && any (has_state f) (states_of (get_or follow p 0))) }
 {
-    let mut r: u16 = 0;
-    for q in 0..16 {
-        let next = follow[q as usize];
-        r = with_if(r, q, next & f != 0);
-    }
-    r
+    gather(|q| follow[q as usize] & f != 0)
 }
 
 // Writes v at a place that is hit.

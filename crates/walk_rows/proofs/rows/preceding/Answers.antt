@@ -1,7 +1,8 @@
 -- `rows::preceding` meets its contract. Assumes nothing.
 use native.Mathlib.Omega.{arith}
-use Rattle.walk_rows.proofs.Cells.{meets, gather_more}
+use Rattle.std.proofs.Common.{rules, get_or}
+use Rattle.walk_rows.proofs.Cells.{meets, gathered}
 use Rattle.walk_rows.proofs.rows.preceding.Goals as goal
 
-pub loop-q-preserved : goal.loop-q-preserved
-loop-q-preserved c = gather_more _ _ _ _ c.loop-q.invariant (meets _ _ (omega arith)) c.with_if-r.ensures
+pub returns : goal.returns
+returns c = gathered _ _ (λ q l. rw (← meets (get_or c.args.follow q 0) c.args.f (omega arith)) (search (c.gather.ensures.tested q l, rules))) c.gather.ensures.others
