@@ -8,6 +8,7 @@ use native.Mathlib.Nat.{le_refl}
 use native.Mathlib.Omega.{arith}
 use borrow.Author.Tests.{ne_eqb}
 use lib.ListN.{length, get_or}
+use Rattle.std.specs.Prelude.{Option, Some, None}
 use Rattle.sets.specs.Table.{half, put_half}
 use Rattle.sets.proofs.Cases.{eq_or_ne, lt_or_le, clash}
 use Rattle.sets.proofs.Tests.{either}
@@ -103,19 +104,20 @@ module _ (ws w : List ℕ) (c : part_check ws ≡ 0) (owned : Owned ws w) where
       }
 
   -- the target is a node
-  found_node : (t i : ℕ) → Located ws w owners_base 1 (length ws) t i → 0 < i → (node_at ws i ≡ true) × (number ws i ≡ t)
-  found_node t i f p =
-      let (k, a, b, e, q) = f.some p in
+  found_node : (t i : ℕ) → Located ws w owners_base 1 (length ws) t (Some i) → (node_at ws i ≡ true) × (number ws i ≡ t)
+  found_node t i f =
+      let (k, a, b, e, q) = f in
       (rw e at (owned k (omega arith) b).node, q)
 
   -- the target is no node
-  found_none : (t i : ℕ) → Located ws w owners_base 1 (length ws) t i → i ≡ 0 → (j : ℕ) → node_at ws j ≡ true → number ws j ≡ t → ⊥
-  found_none t i f z j n q =
+  found_none : (t : ℕ) → Located ws w owners_base 1 (length ws) t None → (j : ℕ) → node_at ws j ≡ true → number ws j ≡ t → ⊥
+  found_none t f j n q =
       let l = node_below ws j n in
       let p : 0 < j = ⊎_elim (λ (e : j ≡ 0). absurd (clash (rw e at n) (header_node ws c))) (λ e. omega arith) (eq_or_ne j 0) in
       let o = owned j p l in
       let e : half w owners_base j ≡ j = ⊎_elim (λ (y : half w owners_base j ≡ j). y) (λ y. absurd (clash n (o.last j (omega (arith, o.before)) (le_refl j)))) (eq_or_ne (half w owners_base j) j) in
-      f.none z j p l (rw e q)
+      f j p l (rw e q)
 
-  pub position_found : (t i : ℕ) → Located ws w owners_base 1 (length ws) t i → PositionOf ws t i
-  position_found t i f = record { some = found_node t i f; none = found_none t i f }
+  pub position_found : (t : ℕ) (r : Option ℕ) → Located ws w owners_base 1 (length ws) t r → PositionOf ws t r
+  position_found t (Some i) f = found_node t i f
+  position_found t None f = found_none t f

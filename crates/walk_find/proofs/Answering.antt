@@ -1,19 +1,15 @@
 -- The finder's code: where 20 is given, the walk that is found by the distances, the file that is written, and what the call answers. Assumes nothing.
 use mathlib.Core.Path.{◌≡◌, refl, sym, subst, ap, ◌∙◌}
-use mathlib.Core.Logic.{inl, inr}
-use mathlib.Core.Bool.{Bool, true, false, not, ◌||◌}
+use mathlib.Core.Bool.{Bool, true, false, not}
 use mathlib.Core.List.{List, [], ◌∷◌}
 use mathlib.Core.Option.{none, some}
 use Prim.Native.Nat.{ℕ}
-use native.Mathlib.Nat.{pos_of_ne-zero}
 use native.Mathlib.Omega.{arith}
 use Rattle.std.specs.Prelude.{Option, Some, None}
-use borrow.Author.Tests.{eqb-true, eq-eqb}
-use lib.Dec.{eqb}
 use lib.ListN.{get_or, drop}
 use Rattle.sets.specs.Sets.{Mem}
-use Rattle.sets.proofs.Tests.{either, passed}
-use Rattle.sets.proofs.Cases.{clash, and_left}
+use Rattle.sets.proofs.Tests.{passed}
+use Rattle.sets.proofs.Cases.{and_left}
 use Rattle.files.specs.Word.{words}
 use Rattle.files.specs.Field.{target_of, root_of}
 use Rattle.files.specs.Part.{is_node, is_root, nodes, roots, whole_check}
@@ -50,10 +46,6 @@ on_nodes : (ws : List ℕ) → whole_check ws ≡ 0 → (runs : ℕ → Bool) (u
 on_nodes ws ok runs [] x y m a = subst (λ x. Mem x (nodes (drop 1 ws))) a m
 on_nodes ws ok runs (w ∷ us) x y m a = on_nodes ws ok runs us (target_of w) y (whole_target ws ok x w a.0) a.2
 
-either_of : (a b : Bool) → (a || b) ≡ false → (a ≡ false) × (b ≡ false)
-either_of false b e = (refl, e)
-either_of true b e = absurd (clash refl e)
-
 -- the root, by its word
 module _ (ws : List ℕ) (ok : whole_check ws ≡ 0) (root : ℕ) (f : FirstThat is_root ws root) where
   pub root_node : node_at ws root ≡ true
@@ -69,12 +61,12 @@ module _ (ws : List ℕ) (ok : whole_check ws ≡ 0) (root : ℕ) (f : FirstThat
 
 module _ (ws : List ℕ) (y : ℕ) (ok : whole_check ws ≡ 0) (a : Automaton) (root : ℕ) (f : FirstThat is_root ws root) where
   -- y is no node
-  stranger : PositionOf ws y 0 → (path : List ℕ) → Automates a (expr_of (drop 1 path)) → found_walk ws path y ≡ none
+  stranger : PositionOf ws y None → (path : List ℕ) → Automates a (expr_of (drop 1 path)) → found_walk ws path y ≡ none
   unfolding found_walk
   stranger p path h = (find_none holds (runs_in (drop 1 ws)) ws ok (expr_of (drop 1 path)) h.small y).1 (λ us w.
       let k = on_nodes ws ok (runs_in (drop 1 ws)) us w.root y (roots_nodes (drop 1 ws) w.root w.is_root_lem) w.along in
       let (i, n, q) = in_node ws y (subst (Mem y) (nodes_same ws (whole_part ws ok)) k) in
-      p.none refl i n q)
+      p i n q)
 
   halted : stopped_at ws root ≡ true → (path : List ℕ) → Automates a (expr_of (drop 1 path)) → found_walk ws path y ≡ none
   unfolding found_walk
@@ -84,19 +76,13 @@ module _ (ws : List ℕ) (y : ℕ) (ok : whole_check ws ≡ 0) (a : Automaton) (
   no_walk : (path w : List ℕ) → found_walk ws path y ≡ none → Measured ws path y w None
   no_walk path w i = record { none = λ z. i; some = λ b z. cc }
 
-  module _ {i : ℕ} {b : Bool} (p : PositionOf ws y i) (s : b ≡ stopped_at ws root) where
-    -- the node is none of the file, or the root is stopped
-    pub unwalked : (w : List ℕ) → (eqb i 0 || b) ≡ true → (path : List ℕ) → Automates a (expr_of (drop 1 path)) → Measured ws path y w None
-    unwalked w t path h = elim (either (eqb i 0)) [
-      | inl z ↦ no_walk path w (stranger (subst (PositionOf ws y) (eqb-true i 0 z) p) path h)
-      | inr z ↦ no_walk path w (halted (sym s ∙ (rw z at t)) path h)
-    ]
+  -- the node is none of the file
+  pub unknown : PositionOf ws y None → (w path : List ℕ) → Automates a (expr_of (drop 1 path)) → Measured ws path y w None
+  unknown p w path h = no_walk path w (stranger p path h)
 
-    pub walks_on : (eqb i 0 || b) ≡ false → (node_at ws i ≡ true) × (number ws i ≡ y) × (stopped_at ws root ≡ false)
-    walks_on t =
-        let (z, k) = either_of (eqb i 0) b t in
-        let (n, q) = p.some (pos_of_ne-zero (λ e. clash (eq-eqb i 0 e) z)) in
-        (n, q, sym s ∙ k)
+  -- the root is stopped
+  pub unwalked : {b : Bool} → b ≡ stopped_at ws root → b ≡ true → (w path : List ℕ) → Automates a (expr_of (drop 1 path)) → Measured ws path y w None
+  unwalked s t w path h = no_walk path w (halted (sym s ∙ t) path h)
 
   module _ (i : ℕ) (w : List ℕ) {r : Option ℕ} (q : number ws i ≡ y) (s : stopped_at ws root ≡ false)
       (reached : (e : Expr) → Automates a e → Reached ws e (number ws i) w (number ws root) r) (path : List ℕ) (h : Automates a (expr_of (drop 1 path))) where

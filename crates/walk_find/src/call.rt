@@ -49,8 +49,8 @@ fn find(asked: &Asked, node: u32, out: &mut [u8], work: &mut [u8]) -> Option<Bes
 {
     asked.link(work, out);
     let root = find_kind(asked.whole, 2, Mark::Bit17);
-    let i = node_position(asked.whole, out, node);
-    if (i == 0) | is_stopped(asked.whole, root) {
+    let i = node_position(asked.whole, out, node)?;
+    if is_stopped(asked.whole, root) {
         return None;
     }
     let links = measure(asked, work, out, i, root)?;

@@ -6,6 +6,7 @@ use mathlib.Core.List.{List, [], ◌∷◌}
 use Prim.Native.Nat.{ℕ, zero, suc, ◌+◌, ◌*◌, ◌≤◌, ◌<◌}
 use native.Mathlib.Omega.{arith}
 use lib.ListN.{length, get_or}
+use Rattle.std.specs.Prelude.{None}
 use Rattle.sets.specs.Sets.{Mem, here, there, member}
 use Rattle.sets.specs.States.{has_state}
 use Rattle.sets.specs.Table.{half, put_half}
@@ -44,10 +45,10 @@ edge_target ws c x e =
     in_node ws (target_of (get_or ws x 0)) ((member_iff (target_of (get_or ws x 0)) (nodes ws)).0 (all (get_or ws x 0) (get_mem ws x (edge_below ws x e)) (passed e)))
 
 -- so it is found
-pub target_found : (ws : List ℕ) → whole_check ws ≡ 0 → (x r : ℕ) → edge_at ws x ≡ true → PositionOf ws (number ws x) r → (node_at ws r ≡ true) × (number ws r ≡ number ws x)
-target_found ws c x r e p =
+pub target_found : (ws : List ℕ) → whole_check ws ≡ 0 → (x : ℕ) → edge_at ws x ≡ true → PositionOf ws (number ws x) None → ⊥
+target_found ws c x e p =
     let (i, n, q) = edge_target ws c x e in
-    p.some (⊎_elim (λ (z : r ≡ 0). absurd (p.none z i n q)) (λ z. omega arith) (eq_or_ne r 0))
+    p i n q
 
 -- ---- rows that stay
 

@@ -43,7 +43,10 @@ impl Asked<'_> {
         requires { (whole_check (words self.now.whole.now) ≡ 0) × (2 * length (words self.now.whole.now) ≤ length out.now) × Owned (words self.now.whole.now) out.now × (edge_at (words self.now.whole.now) x ≡ true) }
         ensures { (node_at (words self.now.whole.now) result ≡ true) × (number (words self.now.whole.now) result ≡ number (words self.now.whole.now) x) }
     {
-        node_position(self.whole, out, number_at(self.whole, x))
+        match node_position(self.whole, out, number_at(self.whole, x)) {
+            Some(t) => t,
+            None => 0,
+        }
     }
 
     // Writes the row of the edge word at x.
