@@ -11,12 +11,13 @@ use files::limits::REPLY_WORDS;
 use files::refusal::Refusal;
 use files::refuse::check_file;
 use files::word::word_at;
-use lists::ascending::{Listed, check_ascending};
+use lists::ascending::{Calls, check_ascending};
 
 // A call list: its size, its header, its words.
 pub fn check_calls(bytes: &[u8]) -> Result<(), Refusal>
     ensures { number result ≡ (size_check reply_words bytes.now then calls_check (words bytes.now)) }
 {
     check_file(bytes, REPLY_WORDS, 11, false, true)?;
-    check_ascending(bytes, Listed::Calls, labels(word_at(bytes, 0)))
+    let n = labels(word_at(bytes, 0));
+    check_ascending(bytes, Calls { n })
 }

@@ -5,11 +5,10 @@ ghost use Rattle.files.specs.Refusal.{number};
 ghost use Rattle.files.specs.Answers.{answers_check};
 
 use files::refusal::Refusal;
-use lists::ascending::{Listed, check_ascending};
+use lists::ascending::{Answers, check_ascending};
 
-// Answers have no states, so any number serves as the most.
 pub fn check_answers(file: &[u8]) -> Result<(), Refusal>
     ensures { number result ≡ answers_check (get_or (words file.now) 0 0) (drop 1 (words file.now)) }
 {
-    check_ascending(file, Listed::Answers, 0)
+    check_ascending(file, Answers)
 }
