@@ -19,7 +19,7 @@ pub fn close_at(kind: u32, site: u32, n: u32, limit: usize, at: usize, end: usiz
     }
 }
 
-// The header of a file of `count` words, with itself, in the place of word 0. Gives 15 where it is over its limit, and only then.
+// The header of a file of `count` words, with itself, in the place of word 0. Refuses one over its limit, and no other.
 pub fn close(
     kind: u32,
     site: u32,

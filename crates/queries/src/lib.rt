@@ -1,4 +1,4 @@
-// The readers of what a site is asked: paths and call lists. Each answers the number of the refusal, 0 where there is none.
+// The readers of what a site is asked: paths and call lists. Each hands on the first refusal.
 #![tactic(auto)]
 
 pub mod calls;
