@@ -1,4 +1,5 @@
-// Files of 32-bit little-endian words: words and fields, a reading position and what goes along with it, the checks that every file shares, and what a call leaves.
+// Files of 32-bit little-endian words: words one by one and one after another, their fields, refusals by name, the one scan of files that
+// are read word by word, the checks that every file shares, and what a call leaves.
 #![tactic(auto)]
 
 pub mod buffer;

@@ -21,18 +21,18 @@ pub enum Refusal {
     StateTooHigh = 10,
     // A cut list or a site, or what a plant is to be generated from.
     WrongCounts = 11,
-    // Replies of one site twice, or of different n.
+    // Replies of one site twice, or of different n; a call list whose n is not the path's.
     MixedReplies = 12,
     NodeTwice = 13,
     // A pair whose node is no door.
     Stray = 14,
-    // The result is over its limit.
+    // The result is over its limit; of one reply for eight, a long one without room too.
     TooLong = 15,
     WrongGroups = 16,
     // A bundle of paths that is not just some files.
     WrongFiles = 17,
     WrongTriples = 18,
-    // No triple says a node of the whole.
+    // A node of the whole is stopped, or no triple says it.
     Unsaid = 19,
     NoWalk = 20,
     // What a dearest part is to be made of.

@@ -1,4 +1,4 @@
-// The position automaton of a path, by value: sets of states and, for each position, the labels that it reads.
+// The position automaton of a path: sets of states and, for each position, the labels that it reads.
 ghost use Rattle.std.specs.Prelude.{◌≡◌, ℕ, drop};
 ghost use Rattle.sets.specs.States.{has_state};
 ghost use Rattle.files.specs.Word.{words};

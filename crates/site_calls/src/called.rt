@@ -57,7 +57,7 @@ fn advance(part: &[u8], from: usize, x: u32) -> usize
     n
 }
 
-// Whether each called node of the part is a door. Calls and nodes ascend, so the position in the part only moves forward.
+// 14: a called node of the part is no door. Calls and nodes ascend, so the position in the part only moves forward.
 fn check_doors(part: &[u8], calls: &[u8]) -> Result<(), Refusal>
     requires { (part_check (words part.now) ≡ 0) × (calls_check (words calls.now) ≡ 0) }
     ensures { number result ≡ (14 unless not (any (λ c. not (member (pair_node c) (doors (drop 1 (words part.now)))))
@@ -75,7 +75,7 @@ fn check_doors(part: &[u8], calls: &[u8]) -> Result<(), Refusal>
     Ok(())
 }
 
-// The call list against path and part: the same n, and doors only.
+// 12 and 14, of the call list against path and part: another n, and a call of a node that is no door.
 pub fn check_against(part: &[u8], path: &[u8], calls: &[u8]) -> Result<(), Refusal>
     requires { (part_check (words part.now) ≡ 0) × (calls_check (words calls.now) ≡ 0) }
     ensures { number result ≡ against_check (words part.now) (words path.now) (words calls.now) }

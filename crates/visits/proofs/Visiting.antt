@@ -156,11 +156,21 @@ module _ {whole m number end : ℕ} (part groups path : List ℕ) {o₁ o₂ : L
   path_refused d z =
       record { responds = rw (own_answered whole part groups path, ← f.number_is) (answer_refused number reply_words (own whole part groups path).reply m o₂ d (λ i. z (sym d ∙ i))) }
 
-  pub path_answered : {r : ℕ} → number ≡ 0 → o₁ ≡ zeros m → length o₁ ≡ m → r ≡ (15 unless leb end reply_words) → PathAnswered whole part groups path m o₂ r
-  path_answered {r} n z l d = record {
+  pub path_within : {r : ℕ} → number ≡ 0 → o₁ ≡ zeros m → length o₁ ≡ m → r ≡ (15 unless leb end reply_words) → PathAnswered whole part groups path m o₂ r
+  path_within {r} n z l d = record {
     responds = rw (own_answered whole part groups path, ← f.number_is)
         (answer_filed number reply_words (own whole part groups path).reply m refl n (extends_filed (own whole part groups path).reply f.extends z l d));
   }
+
+-- and whatever its number
+pub path_answered : {whole m number end q r : ℕ} (part groups path : List ℕ) {o₁ o₂ : List ℕ} → PathAsked whole part groups path (length o₁) o₁ 0 o₂ number end
+    → o₁ ≡ zeros m → length o₁ ≡ m → q ≡ (15 unless leb end reply_words) → r ≡ (number then q) → PathAnswered whole part groups path m o₂ r
+path_answered {whole} {m} {number} {end} {q} {r} part groups path {o₁} {o₂} f z l e d =
+    record { responds = rw (own_answered whole part groups path, ← f.number_is) (by number d) }
+  where
+    by : (k : ℕ) → r ≡ (k then q) → Responds (outcome k reply_words (own whole part groups path).reply) m o₂ r
+    by zero d = answer_filed 0 reply_words (own whole part groups path).reply m refl refl (extends_filed (own whole part groups path).reply f.extends z l (d ∙ e))
+    by (suc k) d = rw d (answer_refused (suc k) reply_words (own whole part groups path).reply m o₂ refl (λ i. omega arith))
 
 -- for the writer of its reply
 pub path_passed : {whole n m : ℕ} {part groups : List ℕ} (path : List ℕ) {k : ℕ} → SiteReady whole n m part groups → whole ≡ 0 → k ≡ 0

@@ -2,7 +2,7 @@
 use borrow.Author.Rules.{rules}
 use mathlib.Core.Path.{refl}
 use Rattle.files.proofs.Checks.{code_some}
-use Rattle.visits.proofs.Visiting.{same_ready, path_refused, path_answered}
+use Rattle.visits.proofs.Visiting.{same_ready, path_refused, path_within}
 use Rattle.visits.proofs.path.answer.Goals as goal
 
 pub ask-requires : goal.ask-requires
@@ -16,4 +16,4 @@ returns-in_err-end c =
 pub returns : goal.returns
 returns c =
     let a = c.args in
-    path_answered a.part.now a.groups.now a.path.now c.in_ok-end.ensures refl (search rules) (search rules) c.ensure.ensures
+    path_within a.part.now a.groups.now a.path.now c.in_ok-end.ensures refl (search rules) (search rules) c.ensure.ensures
