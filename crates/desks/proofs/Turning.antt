@@ -8,10 +8,6 @@ use borrow.Author.Tests.{eqb-true, leb-true, leb-false, le-leb, lt-leb}
 use lib.Dec.{T, eqb, leb}
 use lib.ListN.{length}
 use Rattle.sets.proofs.Cases.{clash}
-use Rattle.std.specs.Prelude.{Result, Ok, Err}
-use Rattle.std.specs.Result.{result_and, result_unwrap_or}
-use Rattle.files.specs.declared.refusal.Refusal.{Refusal}
-use Rattle.files.specs.Refusal.{number}
 use Rattle.files.specs.Limits.{reply_words}
 use Rattle.files.specs.Outcome.{padded}
 use Rattle.path_bundles.specs.Place.{file_at}
@@ -26,15 +22,10 @@ use Rattle.desks.proofs.Owning.{short, long, sort, offered_short, offered_fits, 
 
 -- ---- a path is asked, behind the words that stand
 
-number_and : (r : Result ℕ Refusal) (u : Unit {0}) → number (result_and r (Ok u)) ≡ number r
-number_and (Ok end) u = refl
-number_and (Err e) u = refl
-
--- f is the file of an index, q what it comes to without where it ends, and `end` that
-pub file_asked : {whole n at end : ℕ} {part groups f out out' : List ℕ} (r : Result ℕ Refusal) {q : Result (Unit {0}) Refusal} (i : ℕ) (paths : List ℕ) → f ≡ file_at i paths
-    → PathAsked whole part groups f n out at out' (number r) (result_unwrap_or r at) → q ≡ result_and r (Ok tt) → end ≡ result_unwrap_or r at
-    → PathAsked whole part groups (file_at i paths) n out at out' (number q) end
-file_asked r i paths e a b d = rw (b, d, number_and r tt, ← e) a
+-- f is the file of an index, and k where its reply ends
+pub file_asked : {whole n at number end k : ℕ} {part groups f out out' : List ℕ} (i : ℕ) (paths : List ℕ) → f ≡ file_at i paths
+    → PathAsked whole part groups f n out at out' number k → end ≡ k → PathAsked whole part groups (file_at i paths) n out at out' number end
+file_asked i paths e a d = rw (d, ← e) a
 
 module _ {whole n at number end : ℕ} {part groups path out out' : List ℕ} (a : PathAsked whole part groups path n out at out' number end) where
   abbrev x : Own

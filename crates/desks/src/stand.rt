@@ -1,12 +1,11 @@
 // Where the desks stand: those before `next` have their numbers, and their replies are put in or not.
 ghost use Rattle.std.specs.Prelude.{◌≡◌, ◌*◌, ◌≤◌, ◌<◌, length};
-ghost use Rattle.files.specs.Refusal.{number};
 ghost use Rattle.choices.specs.Choice.{short_words};
 ghost use Rattle.desks.specs.Owns.{short_part};
 ghost use Rattle.desks.specs.Stands.{Enters, Settles, Erased};
 
 use files::buffer::clear;
-use files::refusal::{Refusal, number};
+use files::numbered::Numbered;
 
 // The longest reply that is always put in.
 pub const SHORT_WORDS: usize = 512;
@@ -29,12 +28,12 @@ fn enter(numbers: u64, n: u32) -> u64
 }
 
 // The next desk comes to this; with it so many words are put in, and so many are kept for desks to come.
-pub fn settle_desk(s: Stand, outcome: Result<(), Refusal>, words: usize, later: usize) -> Stand
-    requires { (number outcome < 256) × (s.next < 8) }
-    ensures { Settles s (number outcome) words later result }
+pub fn settle_desk<N: Numbered>(s: Stand, outcome: N, words: usize, later: usize) -> Stand
+    requires { (N.number outcome < 256) × (s.next < 8) }
+    ensures { Settles s (N.number outcome) words later result }
 {
     Stand {
-        numbers: enter(s.numbers, number(outcome)),
+        numbers: enter(s.numbers, outcome.number()),
         next: s.next + 1,
         words,
         later,

@@ -1,6 +1,6 @@
 // The generator: a 32-bit state that each draw moves on. Whoever draws is lent it by `&mut`.
 ghost use Rattle.std.specs.Prelude.{◌≡◌, ◌*◌, ◌%◌, ◌^◌};
-ghost use Rattle.draws.specs.Draws.{moved, upper_bits, drawn};
+ghost use Rattle.draws.specs.Draws.{moved, upper_bits, after, drawn};
 
 const MULTIPLIER: u32 = 1664525;
 
@@ -40,5 +40,34 @@ impl Generator {
     {
         self.state = step(self.state);
         upper(self.state)
+    }
+}
+
+// A draw from a generator that is lent.
+pub fn draw(g: &mut Generator) -> u32
+    ensures { (g.new.state ≡ moved g.old.state) × (result ≡ drawn g.old.state 0) }
+{
+    g.draw()
+}
+
+// What two draws hand out, and the state after them.
+#[derive(Drop)]
+pub struct Two {
+    pub first: u32,
+    pub second: u32,
+    pub state: u32,
+}
+
+// Two draws from a state that is a number.
+pub fn draw_two(state: u32) -> Two
+    ensures { (result.first ≡ drawn state 0) × (result.second ≡ drawn state 1) × (result.state ≡ after 2 state) }
+{
+    let mut g = Generator { state };
+    let first = draw(&mut g);
+    let second = draw(&mut g);
+    Two {
+        first,
+        second,
+        state: g.state,
     }
 }

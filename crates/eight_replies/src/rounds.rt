@@ -1,7 +1,6 @@
 // Two rounds over the desks. The second goes on from the first desk whose reply did not surely fit in the first. So no reply is searched more than
 // twice, and where all are short, once.
 ghost use Rattle.std.specs.Prelude.{◌≡◌, ◌+◌, ◌-◌, ◌<◌, length};
-ghost use Rattle.files.specs.Refusal.{number};
 ghost use Rattle.files.specs.Outcome.{zeros};
 ghost use Rattle.desks.specs.Owns.{owns};
 ghost use Rattle.desks.specs.Turns.{Asking};
@@ -10,22 +9,22 @@ ghost use Rattle.eight_replies.specs.Rounds.{Stood, Shares};
 use desks::stand::Stand;
 use desks::turns::{choose, lay};
 use files::buffer::clear;
-use files::refusal::Refusal;
+use files::numbered::Numbered;
 use path_bundles::split::count_files;
 
 pub const DESKS: usize = 8;
 
 // All desks. Those from `next` on, if any, are left to the second round.
-fn lay_all(
-    whole: Result<(), Refusal>,
+fn lay_all<N: Numbered>(
+    whole: N,
     part: &[u8],
     groups: &[u8],
     paths: &[u8],
     out: &mut [u8],
     work: &mut [u8],
 ) -> Stand
-    requires { Asking (number whole) (length out.old) (length work.old) part.now groups.now × (out.old ≡ zeros (length out.old)) }
-    ensures { Stood (length out.old) (owns (number whole) part.now groups.now 8 paths.now) result out.new }
+    requires { Asking (N.number whole) (length out.old) (length work.old) part.now groups.now × (out.old ≡ zeros (length out.old)) }
+    ensures { Stood (length out.old) (owns (N.number whole) part.now groups.now 8 paths.now) result out.new }
 {
     let desks = count_files(paths, DESKS);
     let mut s = Stand {
@@ -42,8 +41,8 @@ fn lay_all(
 }
 
 // The rest, from the next desk on.
-fn choose_rest(
-    whole: Result<(), Refusal>,
+fn choose_rest<N: Numbered>(
+    whole: N,
     part: &[u8],
     groups: &[u8],
     paths: &[u8],
@@ -51,9 +50,9 @@ fn choose_rest(
     out: &mut [u8],
     work: &mut [u8],
 ) -> u64
-    requires { Asking (number whole) (length out.old) (length work.old) part.now groups.now
-        × Stood (length out.old) (owns (number whole) part.now groups.now 8 paths.now) start out.old }
-    ensures { Shares (length out.old) (owns (number whole) part.now groups.now 8 paths.now) result out.new }
+    requires { Asking (N.number whole) (length out.old) (length work.old) part.now groups.now
+        × Stood (length out.old) (owns (N.number whole) part.now groups.now 8 paths.now) start out.old }
+    ensures { Shares (length out.old) (owns (N.number whole) part.now groups.now 8 paths.now) result out.new }
 {
     let mut s = start;
     while s.next < DESKS {
@@ -63,16 +62,16 @@ fn choose_rest(
 }
 
 // The numbers of all desks, and in the output the replies that are put in.
-pub fn share(
-    whole: Result<(), Refusal>,
+pub fn share<N: Numbered>(
+    whole: N,
     part: &[u8],
     groups: &[u8],
     paths: &[u8],
     out: &mut [u8],
     work: &mut [u8],
 ) -> u64
-    requires { Asking (number whole) (length out.old) (length work.old) part.now groups.now }
-    ensures { Shares (length out.old) (owns (number whole) part.now groups.now 8 paths.now) result out.new }
+    requires { Asking (N.number whole) (length out.old) (length work.old) part.now groups.now }
+    ensures { Shares (length out.old) (owns (N.number whole) part.now groups.now 8 paths.now) result out.new }
 {
     clear(out);
     let laid = lay_all(whole, part, groups, paths, out, work);

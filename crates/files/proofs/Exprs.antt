@@ -6,15 +6,21 @@ use Prim.Native.Nat.{ℕ, zero, suc, ◌<◌}
 use native.Mathlib.Omega.{arith}
 use lib.Dec.{eqb}
 use Rattle.std.specs.Prelude.{Result, Ok, Err}
-use borrow.Author.Tests.{eqb-true}
+use borrow.Author.Tests.{eq-eqb, ne_eqb, eqb-true}
 use Rattle.files.specs.declared.expr.Label.{Label}
+use Rattle.files.specs.declared.expr.Label.TheVariants.{Outside}
 use Rattle.files.specs.declared.expr.ExprWord.{ExprWord}
 use Rattle.files.specs.declared.expr.ExprWord.TheVariants as variants
 use Rattle.files.specs.declared.expr.Operator.{Operator}
 use Rattle.files.specs.declared.refusal.Refusal.{Refusal}
 use Rattle.files.specs.declared.refusal.Refusal.TheVariants.{WrongWord}
-use Rattle.files.specs.Path.{is_label}
+use Rattle.files.specs.Path.{is_label, sort_of, low_of, high_of}
 use Rattle.files.specs.Expr.{expr_check, label_at, operator_named, operator_number, operator_at, expr_at}
+
+-- a label word of sort 2 is outside its range
+module _ (w : ℕ) {k : ℕ} (e : k ≡ sort_of w) (z : k ≡ 0 → ⊥) where
+  pub label_outside : {a b : ℕ} → k ≡ 2 → a ≡ low_of w → b ≡ high_of w → Outside a b ≡ label_at w
+  label_outside y f g = rw (ne_eqb (sort_of w) 0 (λ q. z (e ∙ q)), eq-eqb (sort_of w) 2 (sym e ∙ y), f, g)
 
 -- what a case says of its word
 module _ (w : ℕ) {r : Result ExprWord Refusal} (h : r ≡ expr_at w) where

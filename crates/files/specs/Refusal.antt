@@ -30,3 +30,8 @@ code WrongDemands = 21
 abbrev pub number : {T : Type 0} → Result T Refusal → ℕ
 number (Ok x) = 0
 number (Err e) = code e
+
+-- so where the error is a number itself
+abbrev pub told : {T : Type 0} → Result T ℕ → ℕ
+told (Ok x) = 0
+told (Err k) = k

@@ -1,5 +1,5 @@
-// Files of 32-bit little-endian words: words one by one and one after another, their fields, refusals by name, the one scan of files that
-// are read word by word, the checks that every file shares, and what a call leaves.
+// Files of 32-bit little-endian words: words one by one and one after another, their fields, refusals by name and by number, the one scan of files
+// that are read word by word, the checks that every file shares, and what a call leaves.
 #![tactic(auto)]
 
 pub mod buffer;
@@ -8,6 +8,7 @@ pub mod expr;
 pub mod field;
 pub mod limits;
 pub mod make;
+pub mod numbered;
 pub mod part;
 pub mod refusal;
 pub mod refuse;

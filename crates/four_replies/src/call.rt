@@ -1,12 +1,11 @@
 // Four paths in one visit, as a call, with groups and without.
 ghost use Rattle.std.specs.Prelude.{◌≡◌, [], ◌∷◌, length};
-ghost use Rattle.files.specs.Refusal.{number};
 ghost use Rattle.path_bundles.specs.Packed.{left_several};
 ghost use Rattle.four_replies.specs.Four.{four_replies_call, four_replies_grouped_call};
 ghost use Rattle.four_replies.specs.Left.{VisitReady, VisitLeft};
 
 use files::buffer::clear;
-use files::refusal::{Refusal, number};
+use files::numbered::Numbered;
 use groups::table::our_groups;
 use visits::outputs::{pack, shortest};
 use visits::path::reply;
@@ -15,8 +14,8 @@ use visits::whole::check;
 const VISIT_PATHS: usize = 4;
 
 // The paths one after another, where `whole` is what the checks of the whole come to. Gives their numbers in one.
-fn replies(
-    whole: Result<(), Refusal>,
+fn replies<N: Numbered>(
+    whole: N,
     part: &[u8],
     groups: &[u8],
     paths: &[u8],
@@ -26,7 +25,7 @@ fn replies(
     out4: &mut [u8],
     work: &mut [u8],
 ) -> u32
-    requires { VisitReady (length out1.old ∷ length out2.old ∷ length out3.old ∷ length out4.old ∷ []) (length work.old) part.now groups.now paths.now (number whole) }
+    requires { VisitReady (length out1.old ∷ length out2.old ∷ length out3.old ∷ length out4.old ∷ []) (length work.old) part.now groups.now paths.now (N.number whole) }
     ensures { VisitLeft (length out1.old ∷ length out2.old ∷ length out3.old ∷ length out4.old ∷ [])
         (length work.old) part.now groups.now paths.now
         result (out1.new ∷ out2.new ∷ out3.new ∷ out4.new ∷ []) }
@@ -35,7 +34,7 @@ fn replies(
     let b = reply(whole, part, groups, paths, 1, out2, work);
     let c = reply(whole, part, groups, paths, 2, out3, work);
     let d = reply(whole, part, groups, paths, 3, out4, work);
-    pack(number(a), number(b), number(c), number(d))
+    pack(a, b, c, d)
 }
 
 // The call, with the customer's groups.

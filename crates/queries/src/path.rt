@@ -1,13 +1,14 @@
 // A path, checked word by word.
-ghost use Rattle.std.specs.Prelude.{◌≡◌, ◌&&◌, suc, ◌-◌, leb, get_or, drop};
+ghost use Rattle.std.specs.Prelude.{◌≡◌, ◌&&◌, [], ◌∷◌, ℕ, Ok, suc, ◌-◌, leb, get_or, drop};
 ghost use Rattle.files.specs.Word.{words};
 ghost use Rattle.files.specs.Refuse.{◌then◌, ◌unless◌, size_check};
 ghost use Rattle.files.specs.Refusal.{number};
 ghost use Rattle.files.specs.Path.{takes, word_check, end_check, body_check, path_check};
+ghost use Rattle.files.specs.Expr.{operator_number, expr_at};
 ghost use Rattle.files.specs.Limits.{path_words, most_waiting};
 ghost use Rattle.queries.specs.Waiting.{waiting_after};
 
-use files::expr::{Operator, check_expr, is_label, read_operator};
+use files::expr::{ExprWord, Operator, read_expr};
 use files::field::labels;
 use files::limits::{MOST_WAITING, PATH_WORDS};
 use files::refusal::{Refusal, ensure};
@@ -19,18 +20,25 @@ use kinds::count::{Mark, count_kind};
 // As wide as the count of those that wait.
 const MOST: u32 = MOST_WAITING as u32;
 
-// The operands that a word takes.
-fn takes(w: u32) -> u32
-    ensures { result ≡ takes w }
+// The operands that an operator takes.
+fn operands(op: Operator) -> u32
+    ensures { result ≡ get_or (0 ∷ 2 ∷ 2 ∷ 1 ∷ []) (operator_number op) 0 }
 {
-    if is_label(w) {
-        return 0;
-    }
-    match read_operator(w) {
+    match op {
         Operator::Empty => 0,
         Operator::Then => 2,
         Operator::Or => 2,
         Operator::Star => 1,
+    }
+}
+
+// The operands that a word takes.
+fn takes(e: ExprWord) -> u32
+    ensures { (w : ℕ) → expr_at w ≡ Ok e → result ≡ takes w }
+{
+    match e {
+        ExprWord::Label(_) => 0,
+        ExprWord::Operator(op) => operands(op),
     }
 }
 
@@ -55,12 +63,15 @@ impl Seen for Waiting {
 
     // 5: no expression word; then 9.
     fn check(self, w: u32) -> Result<(), Refusal> {
-        check_expr(w)?;
-        check_waiting(self.0, takes(w))
+        let e = read_expr(w)?;
+        check_waiting(self.0, takes(e))
     }
 
     fn then(self, w: u32) -> Waiting {
-        Waiting(self.0 - takes(w) + 1)
+        match read_expr(w) {
+            Ok(e) => Waiting(self.0 - takes(e) + 1),
+            Err(_) => self,
+        }
     }
 
     fn end(self) -> Result<(), Refusal> {

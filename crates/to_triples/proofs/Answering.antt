@@ -6,6 +6,10 @@ use native.Mathlib.Omega.{arith}
 use borrow.Author.Tests.{le-leb}
 use lib.ListN.{length, get_or, drop, length-replicate}
 use lib.Seq.{take-nil}
+use Rattle.std.specs.Prelude.{Result, Ok, Err}
+use Rattle.std.specs.Result.{result_and}
+use Rattle.files.specs.declared.refusal.Refusal.{Refusal}
+use Rattle.files.specs.Refusal.{number}
 use Rattle.files.specs.Word.{words}
 use Rattle.files.specs.Field.{node_of}
 use Rattle.files.specs.Refuse.{◌then◌, room_check, size_check}
@@ -72,6 +76,11 @@ module _ (s : List ℕ) {a m k : ℕ} (c : Checked triple_words a m (input part_
       let r = to_triples (words s) in
       let f : Filed triple_words a r out 0 = record { number = rw (le-leb (length r) triple_words (counted z)); written = λ l. e } in
       (answer_filed x triple_words r a c.is z f, q ∙ lent_given x triple_words r 0 (length r) c.is z (counted z))
+
+-- what is answered, without the count
+pub number_and : (r : Result ℕ Refusal) (u : Unit {0}) → number (result_and r (Ok u)) ≡ number r
+number_and (Ok k) u = refl
+number_and (Err e) u = refl
 
 -- the call is settled, and t is the count that it leaves
 pub call_left : (s : List ℕ) {n m k r t : ℕ} (out work : List ℕ) {a b : List ℕ} → left r a b ≡ settled k out work → length out ≡ n → length work ≡ m

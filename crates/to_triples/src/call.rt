@@ -1,5 +1,6 @@
 // The call to triples: the root, then the triples, and how many words they are.
 ghost use Rattle.std.specs.Prelude.{◌≡◌, [], ◌∷◌, ◌*◌, ◌≤◌, length};
+ghost use Rattle.std.specs.Result.{result_unwrap_or};
 ghost use Rattle.files.specs.Word.{words};
 ghost use Rattle.files.specs.Refusal.{number};
 ghost use Rattle.files.specs.Outcome.{padded, left, left_lent, lent_by};
@@ -44,15 +45,13 @@ fn write(whole: &[u8], out: &mut [u8]) -> usize
     write_triples(whole, out, count)
 }
 
-// The triples and their count, or the refusal of a check and the count 0.
-fn answer(whole: &[u8], out: &mut [u8], count: &mut u32, work: &mut [u8]) -> Result<(), Refusal>
+// The triples, of which it gives the count, or the refusal of a check.
+fn answer(whole: &[u8], out: &mut [u8], work: &mut [u8]) -> Result<u32, Refusal>
     ensures { Responds (to_call (length out.old) (length work.old) whole.now) (length out.old) out.new (number result)
-        × (count.new ≡ lent_by (to_call (length out.old) (length work.old) whole.now) 0 (length (to_triples (words whole.now)))) }
+        × (result_unwrap_or result 0 ≡ lent_by (to_call (length out.old) (length work.old) whole.now) 0 (length (to_triples (words whole.now)))) }
 {
-    *count = 0;
     check(whole, out.len(), work)?;
-    *count = write(whole, out) as u32;
-    Ok(())
+    Ok(write(whole, out) as u32)
 }
 
 // Turns a whole file into a triple file.
@@ -60,6 +59,7 @@ pub fn to_triples(whole: &[u8], out: &mut [u8], count: &mut u32, work: &mut [u8]
     ensures { left_lent count.new (left result out.new work.new)
         ≡ leaves_counted (length out.old) (length work.old) whole.now }
 {
-    let outcome = answer(whole, out, count, work);
-    settle(outcome, out, work)
+    let answered = answer(whole, out, work);
+    *count = answered.unwrap_or(0);
+    settle(answered.and(Ok(())), out, work)
 }

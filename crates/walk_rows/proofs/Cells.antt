@@ -206,3 +206,11 @@ module _ {hits : ℕ → Bool} {i v : ℕ} {w w' : List ℕ} (f : Hit hits i 16 
   numbered_stays j u p e =
       let (q, l, z) = (numbered_iff w j u).0 e in
       (numbered_iff w' j u).1 (q, l, hit_stays (16 * j + q) (omega arith) ∙ z)
+
+  -- and of other numbers than v they get none
+  pub numbered_else : (j u : ℕ) → 0 < u → (u ≡ v → ⊥) → numbered w' j u ≡ numbered w j u
+  numbered_else j u p d = same_test
+      (λ t.
+      let (q, l, z) = (numbered_iff w' j u).0 (is_true (numbered w' j u) t) in
+      passed ((numbered_iff w j u).1 (q, l, ⊎_elim (λ e. sym e ∙ z) (λ (_, e). absurd (d (sym z ∙ e))) (hit_grown (16 * j + q)))))
+      (λ t. passed (numbered_stays j u p (is_true (numbered w j u) t)))

@@ -7,13 +7,13 @@ use Rattle.eight_replies.proofs.Laying.{same_asking, same_stood, same_shares}
 use Rattle.eight_replies.proofs.rounds.share.Goals as goal
 
 pub lay_all-laid-requires : goal.lay_all-laid-requires
-lay_all-laid-requires c =
+lay_all-laid-requires g c =
     (same_asking c.requires (search rules) (search rules), zeros_all (length c.args.out.now) c.clear.ensures)
 
 pub choose_rest-requires : goal.choose_rest-requires
-choose_rest-requires c =
+choose_rest-requires g c =
     (same_asking c.requires (c.lay_all-laid.auto.out ∙ c.clear.auto.buf) c.lay_all-laid.auto.work, same_stood c.lay_all-laid.ensures c.lay_all-laid.auto.out)
 
 pub returns : goal.returns
-returns c =
+returns g c =
     same_shares c.choose_rest.ensures (sym (c.lay_all-laid.auto.out ∙ c.clear.auto.buf))

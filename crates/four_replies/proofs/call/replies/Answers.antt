@@ -7,23 +7,23 @@ use Rattle.four_replies.proofs.Visits.{path_ready, path_small, visited}
 use Rattle.four_replies.proofs.call.replies.Goals as goal
 
 pub reply-a-requires : goal.reply-a-requires
-reply-a-requires c =
+reply-a-requires g c =
     path_ready c.requires (here refl) (search rules)
 
 pub reply-b-requires : goal.reply-b-requires
-reply-b-requires c =
+reply-b-requires g c =
     path_ready c.requires (there (here refl)) (search rules)
 
 pub reply-c-requires : goal.reply-c-requires
-reply-c-requires c =
+reply-c-requires g c =
     path_ready c.requires (there (there (here refl))) (search rules)
 
 pub reply-d-requires : goal.reply-d-requires
-reply-d-requires c =
+reply-d-requires g c =
     path_ready c.requires (there (there (there (here refl)))) (search rules)
 
 pub pack-requires : goal.pack-requires
-pack-requires c =
+pack-requires g c =
     let p = path_small c.requires c.reply-a.ensures in
     let q = path_small c.requires c.reply-b.ensures in
     let r = path_small c.requires c.reply-c.ensures in
@@ -31,6 +31,5 @@ pack-requires c =
     (omega (arith, p, q, r, s), omega (arith, p, q, r, s), omega (arith, p, q, r, s), omega (arith, p, q, r, s))
 
 pub returns : goal.returns
-returns c =
-    visited c.requires c.reply-a.ensures c.reply-b.ensures c.reply-c.ensures c.reply-d.ensures
-    (rw (← c.number.ensures, ← c.number-2.ensures, ← c.number-3.ensures, ← c.number-4.ensures) c.pack.ensures)
+returns g c =
+    visited c.requires c.reply-a.ensures c.reply-b.ensures c.reply-c.ensures c.reply-d.ensures c.pack.ensures

@@ -3,4 +3,4 @@ use Rattle.output.proofs.Settling.{settled_by}
 use Rattle.output.proofs.settle.settle.Goals as goal
 
 pub returns : goal.returns
-returns c = settled_by _ _ c.number.ensures c.withhold.ensures c.clear.ensures
+returns g c = settled_by _ _ c.number.ensures c.withhold.ensures c.clear.ensures

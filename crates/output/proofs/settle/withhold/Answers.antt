@@ -4,7 +4,7 @@ use Rattle.output.proofs.Settling.{withheld_refused, withheld_passed}
 use Rattle.output.proofs.settle.withhold.Goals as goal
 
 pub returns-then-refused : goal.returns-then-refused
-returns-then-refused c = search (withheld_refused, rules)
+returns-then-refused g c = search (withheld_refused, rules)
 
 pub returns-else-refused : goal.returns-else-refused
-returns-else-refused c = search (withheld_passed, rules)
+returns-else-refused g c = search (withheld_passed, rules)

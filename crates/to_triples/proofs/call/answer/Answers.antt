@@ -13,8 +13,8 @@ returns-in_err-check c = search (responds_refused, code_some, rules)
 pub write-requires : goal.write-requires
 write-requires c = writable _ c.check.ensures (ok_zero c.in_ok-check.was) (search rules)
 
-pub overflow_cast-count : goal.overflow_cast-count
-overflow_cast-count c = omega (arith, c.write.ensures.1, counted _ c.check.ensures (ok_zero c.in_ok-check.was))
+pub overflow_cast-result : goal.overflow_cast-result
+overflow_cast-result c = omega (arith, c.write.ensures.1, counted _ c.check.ensures (ok_zero c.in_ok-check.was))
 
 pub returns : goal.returns
 returns c = responds_written _ c.check.ensures (ok_zero c.in_ok-check.was) c.write.ensures
