@@ -10,7 +10,7 @@ use files::limits::REPLY_WORDS;
 use files::numbered::Numbered;
 use files::refusal::Refusal;
 use path_bundles::split::file_at;
-use visits::path::ask;
+use visits::numbered::ask;
 
 // The first round at desk i, with so many desks to come.
 pub fn lay<N: Numbered>(

@@ -7,8 +7,8 @@ ghost use Rattle.four_replies.specs.Left.{VisitReady, VisitLeft};
 use files::buffer::clear;
 use files::numbered::Numbered;
 use groups::table::our_groups;
+use visits::numbered::reply;
 use visits::outputs::{pack, shortest};
-use visits::path::reply;
 use visits::whole::check;
 
 const VISIT_PATHS: usize = 4;

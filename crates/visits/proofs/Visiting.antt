@@ -10,7 +10,8 @@ use lib.Dec.{leb}
 use lib.ListN.{length}
 use Rattle.std.specs.Prelude.{Result, Ok, Err, IsErr}
 use Rattle.std.specs.Result.{result_unwrap_or}
-use Rattle.files.specs.Refusal.{told}
+use Rattle.files.specs.declared.refusal.Refusal.{Refusal}
+use Rattle.files.specs.Refusal.{number, told}
 use Rattle.sets.specs.Sets.{Mem, here, there}
 use Rattle.sets.proofs.Cases.{clash}
 use Rattle.files.specs.Word.{words}
@@ -122,16 +123,32 @@ own_answered zero part groups (b ∷ path) =
     own_by_lem (size_check path_words (b ∷ path) then path_check (words (b ∷ path))) (first_reply (words part) (loaded (words groups) (words (b ∷ path))))
 own_answered (suc k) part groups path = refl
 
--- it is asked: its own checks refuse, or its reply is written
+-- it is asked: the whole is refused
 module _ (out : List ℕ) {at : ℕ} (h : at ≤ reply_words) where
-  pub asked_refused : {whole k : ℕ} (part groups path : List ℕ) → whole ≡ 0 → (length path ≡ 0 → ⊥) → k ≡ (size_check path_words path then path_check (words path))
+  pub asked_whole : {whole k : ℕ} (part groups path : List ℕ) → k ≡ whole → (k ≡ 0 → ⊥) → PathAsked whole part groups path (length out) out at out k at
+  asked_whole {whole = zero} part groups path e z = absurd (z e)
+  asked_whole {whole = suc w} part groups path e z = record { number_is = e; extends = extends_none reply_words out at h }
+
+  -- there is no path
+  pub asked_none : {whole : ℕ} (part groups path : List ℕ) → whole ≡ 0 → length path ≡ 0 → PathAsked whole part groups path (length out) out at out 0 at
+  asked_none part groups [] w z = rw w (record { number_is = refl; extends = extends_none reply_words out at h })
+  asked_none part groups (b ∷ path) w z = absurd (omega arith)
+
+  -- its own checks refuse, by this number
+  pub asked_checked : {whole k : ℕ} (part groups path : List ℕ) → whole ≡ 0 → (length path ≡ 0 → ⊥) → k ≡ (size_check path_words path then path_check (words path))
       → (k ≡ 0 → ⊥) → PathAsked whole part groups path (length out) out at out k at
-  asked_refused part groups [] w s e z = absurd (s refl)
-  asked_refused part groups (b ∷ path) w s e z =
+  asked_checked part groups [] w s e z = absurd (s refl)
+  asked_checked part groups (b ∷ path) w s e z =
       let (p, q) = own_refused _ (first_reply (words part) (loaded (words groups) (words (b ∷ path)))) (λ i. z (e ∙ i)) in
       rw w (record { number_is = e ∙ sym p; extends = subst (λ vs. Extends reply_words (length out) out at vs out at) (sym q) (extends_none reply_words out at h) })
 
-  -- the number is handed on
+  -- the refusal is handed on
+  pub asked_refused : {whole k : ℕ} (r : Result ℕ Refusal) (part groups path : List ℕ) → whole ≡ 0 → (length path ≡ 0 → ⊥) → k ≡ (size_check path_words path then path_check (words path))
+      → (k ≡ 0 → ⊥) → IsErr r → number r ≡ k → PathAsked whole part groups path (length out) out at out (number r) (result_unwrap_or r at)
+  asked_refused (Ok end) part groups path w s e z f d = absurd (clash f refl)
+  asked_refused (Err x) part groups path w s e z f d = rw d (asked_checked part groups path w s e z)
+
+  -- or its number
   pub asked_told : {whole k : ℕ} {part groups path : List ℕ} (r : Result ℕ ℕ) → IsErr r → told r ≡ k → PathAsked whole part groups path (length out) out at out k at
       → PathAsked whole part groups path (length out) out at out (told r) (result_unwrap_or r at)
   asked_told (Ok end) f e a = absurd (clash f refl)
@@ -144,7 +161,19 @@ asked_reply {n = n} {at} {end} part groups (b ∷ path) {o₁} {o₂} w s e z f 
     let (p, q) = own_passed _ (first_reply (words part) (loaded (words groups) (words (b ∷ path)))) (sym e ∙ z) in
     rw w (record { number_is = sym p; extends = subst (λ vs. Extends reply_words n o₁ at vs o₂ end) (sym q) f })
 
--- it is answered, in a cleared output
+-- it is answered, in a cleared output: refused, or asked with this number, and within the limit or not
+module _ {whole m number end : ℕ} (part groups path : List ℕ) {o₁ o₂ : List ℕ} (f : PathAsked whole part groups path (length o₁) o₁ 0 o₂ number end) where
+  pub path_refused : {r : ℕ} → r ≡ number → (number ≡ 0 → ⊥) → PathAnswered whole part groups path m o₂ r
+  path_refused d z =
+      record { responds = rw (own_answered whole part groups path, ← f.number_is) (answer_refused number reply_words (own whole part groups path).reply m o₂ d (λ i. z (sym d ∙ i))) }
+
+  pub path_within : {r : ℕ} → number ≡ 0 → o₁ ≡ zeros m → length o₁ ≡ m → r ≡ (15 unless leb end reply_words) → PathAnswered whole part groups path m o₂ r
+  path_within {r} n z l d = record {
+    responds = rw (own_answered whole part groups path, ← f.number_is)
+        (answer_filed number reply_words (own whole part groups path).reply m refl n (extends_filed (own whole part groups path).reply f.extends z l d));
+  }
+
+-- and whatever its number
 pub path_answered : {whole m number end q r : ℕ} (part groups path : List ℕ) {o₁ o₂ : List ℕ} → PathAsked whole part groups path (length o₁) o₁ 0 o₂ number end
     → o₁ ≡ zeros m → length o₁ ≡ m → q ≡ (15 unless leb end reply_words) → r ≡ (number then q) → PathAnswered whole part groups path m o₂ r
 path_answered {whole} {m} {number} {end} {q} {r} part groups path {o₁} {o₂} f z l e d =

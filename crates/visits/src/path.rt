@@ -1,73 +1,72 @@
 // One path of a visit.
 ghost use Rattle.std.specs.Prelude.{◌≤◌, length};
 ghost use Rattle.std.specs.Result.{result_unwrap_or};
-ghost use Rattle.files.specs.Refusal.{told};
+ghost use Rattle.files.specs.Refusal.{number};
 ghost use Rattle.files.specs.Limits.{reply_words};
 ghost use Rattle.visits.specs.Answered.{SiteReady, PathAsked, PathAnswered, PathLeft};
 
 use files::buffer::clear;
 use files::limits::REPLY_WORDS;
-use files::numbered::{Numbered, passed};
 use files::refusal::{Refusal, ensure};
 use output::settle::withhold;
 use path_bundles::split::file_at;
 use queries::path::check_path;
 use site_first::call::append;
 
-// What a path comes to by itself: the number that refuses the whole or this path, or where its reply ends, or one past the limit. Puts its reply behind
-// the first `at` words of the output, as far as it fits; nothing where it is refused, or where there is no path.
-pub fn ask<N: Numbered>(
-    whole: N,
+// What a path comes to by itself: the refusal of the whole or of this path, or where its reply ends, or one past the limit. Puts its reply behind the
+// first `at` words of the output, as far as it fits; nothing where it is refused, or where there is no path.
+pub fn ask(
+    whole: Result<(), Refusal>,
     part: &[u8],
     groups: &[u8],
     path: &[u8],
     at: usize,
     out: &mut [u8],
     work: &mut [u8],
-) -> Result<usize, u32>
-    requires { SiteReady (N.number whole) (length out.old) (length work.old) part.now groups.now × (at ≤ reply_words) }
-    ensures { PathAsked (N.number whole) part.now groups.now path.now (length out.old) out.old at out.new (told result) (result_unwrap_or result at) }
+) -> Result<usize, Refusal>
+    requires { SiteReady (number whole) (length out.old) (length work.old) part.now groups.now × (at ≤ reply_words) }
+    ensures { PathAsked (number whole) part.now groups.now path.now (length out.old) out.old at out.new (number result) (result_unwrap_or result at) }
 {
-    passed(whole)?;
+    whole?;
     if path.len() == 0 {
         return Ok(at);
     }
-    passed(check_path(path))?;
+    check_path(path)?;
     Ok(append(part, groups, path, at, out, work))
 }
 
-// Its reply, or the number that refuses the whole or this path; nothing where there is no path.
-fn answer<N: Numbered>(
-    whole: N,
+// Its reply, or the refusal of the whole or of this path; nothing where there is no path.
+fn answer(
+    whole: Result<(), Refusal>,
     part: &[u8],
     groups: &[u8],
     path: &[u8],
     out: &mut [u8],
     work: &mut [u8],
-) -> Result<(), u32>
-    requires { SiteReady (N.number whole) (length out.old) (length work.old) part.now groups.now }
-    ensures { PathAnswered (N.number whole) part.now groups.now path.now (length out.old) out.new (told result) }
+) -> Result<(), Refusal>
+    requires { SiteReady (number whole) (length out.old) (length work.old) part.now groups.now }
+    ensures { PathAnswered (number whole) part.now groups.now path.now (length out.old) out.new (number result) }
 {
     clear(out);
     let end = ask(whole, part, groups, path, 0, out, work)?;
-    passed(ensure(end <= REPLY_WORDS, Refusal::TooLong))
+    ensure(end <= REPLY_WORDS, Refusal::TooLong)
 }
 
-// The path of an index: its number, and its reply or, after a refusal, zeros.
-pub fn reply<N: Numbered>(
-    whole: N,
+// The path of an index: what it comes to, and its reply or, after a refusal, zeros.
+pub fn reply(
+    whole: Result<(), Refusal>,
     part: &[u8],
     groups: &[u8],
     paths: &[u8],
     index: usize,
     out: &mut [u8],
     work: &mut [u8],
-) -> u32
-    requires { SiteReady (N.number whole) (length out.old) (length work.old) part.now groups.now }
-    ensures { PathLeft (N.number whole) part.now groups.now paths.now index (length out.old) result out.new }
+) -> Result<(), Refusal>
+    requires { SiteReady (number whole) (length out.old) (length work.old) part.now groups.now }
+    ensures { PathLeft (number whole) part.now groups.now paths.now index (length out.old) (number result) out.new }
 {
     let path = file_at(paths, index);
     let outcome = answer(whole, part, groups, path, out, work);
     withhold(outcome, out);
-    outcome.number()
+    outcome
 }

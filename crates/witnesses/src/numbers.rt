@@ -4,7 +4,7 @@ ghost use Rattle.files.specs.Outcome.{zeros, left};
 
 use eight_replies::rounds::share;
 use output::settle::settle;
-use visits::path::reply;
+use visits::numbered::reply;
 
 const OWN: u32 = 100;
 

@@ -4,4 +4,4 @@ use Rattle.visits.proofs.Visiting.{path_left}
 use Rattle.visits.proofs.path.reply.Goals as goal
 
 pub returns : goal.returns
-returns g c = rw c.number.ensures (search (path_left, rules))
+returns c = search (path_left, rules)
